@@ -39,7 +39,7 @@ use Rattle.wp_replies.proofs.Conditions.{compaction_count_more}
 use Rattle.wp_answers.proofs.Alone.Retained.{numbers_in}
 use Rattle.wp_answers.proofs.Alone.Compacting.{compacted_alone, nothing_compacted_alone, compact_failed_alone, compact_halted_alone}
 use Rattle.wp_client.specs.Agrees.{Agrees}
-use Rattle.wp_client.specs.Answers.{IsExplained, Answers, BreaksOff, IsDue, IsAnswered}
+use Rattle.wp_client.specs.Answers.{IsExplained, Answers, BreaksOff, IsAnswered}
 use Rattle.wp_client.specs.declared.holdings.HeldSnapshot.{HeldSnapshot}
 use Rattle.wp_client.specs.Holdings.{HoldingsState, txn_of, labelled, client_of, snapshot_of, times_registered, Holds}
 use Rattle.wp_answers.specs.Replies.{tables_refusal}
@@ -165,28 +165,25 @@ module _ {D : Type 0} (z : SharedState D) (old new : SeatState) where
     fails_condition t None made several next due = fails_with t None made several due tt
     fails_condition t (Some edit) made several next due = fails_with t (Some edit) edit several next next.edit_is
 
-    not_compacted_beside : (why : MaintError) (r : Reply) → tables_refusal why ≡ Some r → Compacts z old (Err why) new → Answers z old new (client_of h) (client_of h) command.Compact r
-    not_compacted_beside Memory r is f = absurd cc
-    not_compacted_beside Nothing r is (t, k) = subst (Answers z old new (client_of h) (client_of h) command.Compact) (same_some reply.Nothing r is)
-        (nothing_answers z old new command.Compact compaction_is (client_of h) t FewTables k
-        (λ first is_first before p e agrees known. nothing_condition (client_of h) t (tables_due k.found.world.first_edit it.past) k.idle before
-        (p.tables ∙ ap (λ (edit : InstalledEdit). tables_due edit it.past) (one_was_first content z.first first k.found.world.first_edit is_first k.found.there.first_edit)) e known.3))
-    not_compacted_beside TableFault r is (t, k) = subst (Answers z old new (client_of h) (client_of h) command.Compact) (same_some reply.FaultTables r is)
-        (failed_answers z old new command.Compact compaction_is (client_of h) refl t (SeveralTables t.last) (IsCompactionOf (HasPinned z old new) z new t.last) k (fails_condition t k.asked k.survives.0 k.busy k.next k.survives.1))
-    not_compacted_beside (TablesStopped flushed) r is (t, k) = subst (Answers z old new (client_of h) (client_of h) command.Compact) (same_some (reply.Halted flushed) r is)
-        (halted_answers z old new command.Compact compaction_is (client_of h) t flushed k)
-
     pub compacted_answers : (done : Done) → Compacts z old (Ok done) new → IsAnswered z old new (client_of h) (client_of h) command.Compact (reply.Compacted done.at done.versions)
     compacted_answers done k = (compacted_beside (client_of h) done k, λ world stands only first is_first store so. compacted_alone z first old new only store so (world, stands) is_first (txn_of h.txn) (map labelled h.snapshots) (map snapshot_of h.snapshots) (numbers_held h.snapshots) has.registered done k)
 
-    not_compacted_due : (why : MaintError) (r : Reply) → tables_refusal why ≡ Some r → Compacts z old (Err why) new → IsDue z old new (client_of h) (client_of h) command.Compact r
-    not_compacted_due Memory r is k = absurd cc
-    not_compacted_due Nothing r is k = subst (IsDue z old new (client_of h) (client_of h) command.Compact) (same_some reply.Nothing r is) (λ world stands only first is_first store so. nothing_compacted_alone z first old new only store so (world, stands) is_first (txn_of h.txn) (map labelled h.snapshots) (map snapshot_of h.snapshots) (numbers_held h.snapshots) has.registered k)
-    not_compacted_due TableFault r is k = subst (IsDue z old new (client_of h) (client_of h) command.Compact) (same_some reply.FaultTables r is) (λ world stands only first is_first store so. compact_failed_alone z first old new only store so (world, stands) is_first (txn_of h.txn) (map labelled h.snapshots) (map snapshot_of h.snapshots) (numbers_held h.snapshots) has.registered k)
-    not_compacted_due (TablesStopped flushed) r is k = subst (IsDue z old new (client_of h) (client_of h) command.Compact) (same_some (reply.Halted flushed) r is) (λ world stands only first is_first store so. compact_halted_alone z first old new only store so (world, stands) is_first (txn_of h.txn) (map labelled h.snapshots) (map snapshot_of h.snapshots) (numbers_held h.snapshots) has.registered flushed k)
-
     pub not_compacted_answers : (why : MaintError) (r : Reply) → tables_refusal why ≡ Some r → Compacts z old (Err why) new → IsAnswered z old new (client_of h) (client_of h) command.Compact r
-    not_compacted_answers why r is k = (not_compacted_beside why r is k, not_compacted_due why r is k)
+    not_compacted_answers Memory r is f = absurd cc
+    not_compacted_answers Nothing r is (t, k) = subst (IsAnswered z old new (client_of h) (client_of h) command.Compact) (same_some reply.Nothing r is) (
+      nothing_answers z old new command.Compact compaction_is (client_of h) t FewTables k
+          (λ first is_first before p e agrees known. nothing_condition (client_of h) t (tables_due k.found.world.first_edit it.past) k.idle before
+          (p.tables ∙ ap (λ (edit : InstalledEdit). tables_due edit it.past) (one_was_first content z.first first k.found.world.first_edit is_first k.found.there.first_edit)) e known.3),
+      λ world stands only first is_first store so. nothing_compacted_alone z first old new only store so (world, stands) is_first (txn_of h.txn) (map labelled h.snapshots) (map snapshot_of h.snapshots) (numbers_held h.snapshots) has.registered (t, k),
+    )
+    not_compacted_answers TableFault r is (t, k) = subst (IsAnswered z old new (client_of h) (client_of h) command.Compact) (same_some reply.FaultTables r is) (
+      failed_answers z old new command.Compact compaction_is (client_of h) refl t (SeveralTables t.last) (IsCompactionOf (HasPinned z old new) z new t.last) k (fails_condition t k.asked k.survives.0 k.busy k.next k.survives.1),
+      λ world stands only first is_first store so. compact_failed_alone z first old new only store so (world, stands) is_first (txn_of h.txn) (map labelled h.snapshots) (map snapshot_of h.snapshots) (numbers_held h.snapshots) has.registered (t, k),
+    )
+    not_compacted_answers (TablesStopped flushed) r is (t, k) = subst (IsAnswered z old new (client_of h) (client_of h) command.Compact) (same_some (reply.Halted flushed) r is) (
+      halted_answers z old new command.Compact compaction_is (client_of h) t flushed k,
+      λ world stands only first is_first store so. compact_halted_alone z first old new only store so (world, stands) is_first (txn_of h.txn) (map labelled h.snapshots) (map snapshot_of h.snapshots) (numbers_held h.snapshots) has.registered flushed (t, k),
+    )
 
   -- what the client has then: what it had
   pub compaction_holds : (answer : Result Done MaintError) → Compacts z old answer new → (h : HoldingsState) → Holds z old h → Holds z new h

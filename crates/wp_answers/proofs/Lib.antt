@@ -9,3 +9,4 @@ pub mod Refusals
 pub mod Maintaining
 pub mod Compacting
 pub mod Renewing
+pub mod Uncalled

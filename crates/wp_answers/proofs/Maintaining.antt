@@ -32,7 +32,7 @@ use Rattle.wp_replies.specs.After.{after_reply}
 use Rattle.wp_replies.specs.Tables.{unflushed, after_flush}
 use Rattle.wp_answers.proofs.Alone.Flushing.{flushed_alone, nothing_flushed_alone, flush_failed_alone, flush_halted_alone}
 use Rattle.wp_client.specs.Agrees.{Agrees, Knows}
-use Rattle.wp_client.specs.Answers.{IsProgress, IsExplained, Answers, BreaksOff, IsDue, IsAnswered}
+use Rattle.wp_client.specs.Answers.{IsProgress, IsExplained, Answers, BreaksOff, IsAnswered}
 use Rattle.wp_client.specs.Holdings.{HoldingsState, Holds}
 use Rattle.wp_answers.specs.Replies.{tables_refusal}
 use Rattle.wp_client.proofs.Fitting.{Fits, else_answers}
@@ -162,24 +162,20 @@ module _ {D : Type 0} (z : SharedState D) (old new : SeatState) where
           (subst (λ (h : List Entry). IfSome asked (λ edit. edit ≡ after_flush h t.last)) (sym there) next));
     }
 
-    not_flushed_beside : (why : MaintError) (r : Reply) → tables_refusal why ≡ Some r → Flushes z old (Err why) new → Answers z old new client client command.Flush r
-    not_flushed_beside Memory r is f = absurd cc
-    not_flushed_beside Nothing r is (t, (whole, k)) = subst (Answers z old new client client command.Flush) (same_some reply.Nothing r is)
-        (nothing_answers command.Flush flush_is client t (NoneInMemory seen) k
-        (λ first is_first before p e agrees known. nothing_condition t k.idle before (last_still first it new.knows.participant before k.goes_on.seen p) e agrees known.0))
-    not_flushed_beside TableFault r is (t, (whole, k)) = subst (Answers z old new client client command.Flush) (same_some reply.FaultTables r is)
-        (failed_answers command.Flush flush_is client refl t (1 ≤ length (unflushed seen t.last)) (λ edit. edit ≡ after_flush seen t.last) k (fails_condition t k.asked k.busy k.next k.goes_on.seen))
-    not_flushed_beside (TablesStopped flushed) r is (t, k) = subst (Answers z old new client client command.Flush) (same_some (reply.Halted flushed) r is)
-        (halted_answers command.Flush flush_is client t flushed k)
-
-    not_flushed_due : (why : MaintError) (r : Reply) → tables_refusal why ≡ Some r → Flushes z old (Err why) new → IsDue z old new client client command.Flush r
-    not_flushed_due Memory r is k = absurd cc
-    not_flushed_due Nothing r is k = subst (IsDue z old new client client command.Flush) (same_some reply.Nothing r is) (λ world stands only first is_first store so. nothing_flushed_alone z first old new only store so (world, stands) is_first client k)
-    not_flushed_due TableFault r is k = subst (IsDue z old new client client command.Flush) (same_some reply.FaultTables r is) (λ world stands only first is_first store so. flush_failed_alone z first old new only store so (world, stands) is_first client k)
-    not_flushed_due (TablesStopped flushed) r is k = subst (IsDue z old new client client command.Flush) (same_some (reply.Halted flushed) r is) (λ world stands only first is_first store so. flush_halted_alone z first old new only store so (world, stands) is_first client flushed k)
-
     pub not_flushed_answers : (why : MaintError) (r : Reply) → tables_refusal why ≡ Some r → Flushes z old (Err why) new → IsAnswered z old new client client command.Flush r
-    not_flushed_answers why r is k = (not_flushed_beside why r is k, not_flushed_due why r is k)
+    not_flushed_answers Memory r is f = absurd cc
+    not_flushed_answers Nothing r is (t, (whole, k)) = subst (IsAnswered z old new client client command.Flush) (same_some reply.Nothing r is) (
+      nothing_answers command.Flush flush_is client t (NoneInMemory seen) k (λ first is_first before p e agrees known. nothing_condition t k.idle before (last_still first it new.knows.participant before k.goes_on.seen p) e agrees known.0),
+      λ world stands only first is_first store so. nothing_flushed_alone z first old new only store so (world, stands) is_first client (t, (whole, k)),
+    )
+    not_flushed_answers TableFault r is (t, (whole, k)) = subst (IsAnswered z old new client client command.Flush) (same_some reply.FaultTables r is) (
+      failed_answers command.Flush flush_is client refl t (1 ≤ length (unflushed seen t.last)) (λ edit. edit ≡ after_flush seen t.last) k (fails_condition t k.asked k.busy k.next k.goes_on.seen),
+      λ world stands only first is_first store so. flush_failed_alone z first old new only store so (world, stands) is_first client (t, (whole, k)),
+    )
+    not_flushed_answers (TablesStopped flushed) r is (t, k) = subst (IsAnswered z old new client client command.Flush) (same_some (reply.Halted flushed) r is) (
+      halted_answers command.Flush flush_is client t flushed k,
+      λ world stands only first is_first store so. flush_halted_alone z first old new only store so (world, stands) is_first client flushed (t, k),
+    )
 
     pub not_flushed_breaks : (why : MaintError) → tables_refusal why ≡ None → Flushes z old (Err why) new → BreaksOff old new client command.Flush
     not_flushed_breaks Memory none (t, goes) = broke_off z old new client command.Flush goes

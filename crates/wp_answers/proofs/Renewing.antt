@@ -31,7 +31,7 @@ use Rattle.wp_replies.specs.Tables.{after_renewal}
 use Rattle.wp_replies.proofs.DueTables.{asks_none}
 use Rattle.wp_answers.proofs.Alone.Renewing.{renewed_alone, nothing_renewed_alone, renew_halted_alone, renew_stopped_alone, renew_log_failed_alone, renew_failed_alone}
 use Rattle.wp_client.specs.Agrees.{Agrees}
-use Rattle.wp_client.specs.Answers.{HasBase, IsProgress, IsExplained, Answers, BreaksOff, IsDue, IsAnswered}
+use Rattle.wp_client.specs.Answers.{HasBase, IsProgress, IsExplained, Answers, BreaksOff, IsAnswered}
 use Rattle.wp_client.specs.Holdings.{HoldingsState, Holds}
 use Rattle.wp_answers.specs.Replies.{renewal_refusal}
 use Rattle.wp_client.proofs.Growing.{of_two, of_three, seen_taken, last_still}
@@ -182,24 +182,18 @@ module _ {D : Type 0} (z : SharedState D) (old new : SeatState) where
     pub renewed_answers : (done : Renewed) → Renews z old (Ok done) new → IsAnswered z old new client client command.Renew (reply.Renewed done.at done.carried)
     renewed_answers done k = (renewed_beside done k, λ world stands only first is_first store so. renewed_alone z first old new only store so (world, stands) is_first client done k)
 
-    not_renewed_beside : (why : RenewError) (r : Reply) → renewal_refusal why ≡ Some r → Renews z old (Err why) new → Answers z old new client client command.Renew r
-    not_renewed_beside Memory r is f = absurd cc
-    not_renewed_beside Nothing r is (t, k) = subst (Answers z old new client client command.Renew) (same_some reply.Nothing r is) (nothing_beside t k)
-    not_renewed_beside TableFault r is (t, k) = subst (Answers z old new client client command.Renew) (same_some reply.FaultTables r is) (broken_beside t k)
-    not_renewed_beside LogFault r is (t, k) = subst (Answers z old new client client command.Renew) (same_some reply.FaultLog r is) (log_fault_beside t k)
-    not_renewed_beside (Stopped n) r is (t, k) = subst (Answers z old new client client command.Renew) (same_some (reply.Stopped n) r is) (closed_beside t n k)
-    not_renewed_beside (TablesStopped flushed) r is (t, k) = subst (Answers z old new client client command.Renew) (same_some (reply.Halted flushed) r is) (halted_answers z old new command.Renew renewal_is client t flushed k)
-
-    not_renewed_due : (why : RenewError) (r : Reply) → renewal_refusal why ≡ Some r → Renews z old (Err why) new → IsDue z old new client client command.Renew r
-    not_renewed_due Memory r is k = absurd cc
-    not_renewed_due Nothing r is k = subst (IsDue z old new client client command.Renew) (same_some reply.Nothing r is) (λ world stands only first is_first store so. nothing_renewed_alone z first old new only store so (world, stands) is_first client k)
-    not_renewed_due TableFault r is k = subst (IsDue z old new client client command.Renew) (same_some reply.FaultTables r is) (λ world stands only first is_first store so. renew_failed_alone z first old new only store so (world, stands) is_first client k)
-    not_renewed_due LogFault r is k = subst (IsDue z old new client client command.Renew) (same_some reply.FaultLog r is) (λ world stands only first is_first store so. renew_log_failed_alone z first old new only store so (world, stands) is_first client k)
-    not_renewed_due (Stopped n) r is k = subst (IsDue z old new client client command.Renew) (same_some (reply.Stopped n) r is) (λ world stands only first is_first store so. renew_stopped_alone z first old new only store so (world, stands) is_first client n k)
-    not_renewed_due (TablesStopped flushed) r is k = subst (IsDue z old new client client command.Renew) (same_some (reply.Halted flushed) r is) (λ world stands only first is_first store so. renew_halted_alone z first old new only store so (world, stands) is_first client flushed k)
-
     pub not_renewed_answers : (why : RenewError) (r : Reply) → renewal_refusal why ≡ Some r → Renews z old (Err why) new → IsAnswered z old new client client command.Renew r
-    not_renewed_answers why r is k = (not_renewed_beside why r is k, not_renewed_due why r is k)
+    not_renewed_answers Memory r is f = absurd cc
+    not_renewed_answers Nothing r is (t, k) = subst (IsAnswered z old new client client command.Renew) (same_some reply.Nothing r is)
+        (nothing_beside t k, λ world stands only first is_first store so. nothing_renewed_alone z first old new only store so (world, stands) is_first client (t, k))
+    not_renewed_answers TableFault r is (t, k) = subst (IsAnswered z old new client client command.Renew) (same_some reply.FaultTables r is)
+        (broken_beside t k, λ world stands only first is_first store so. renew_failed_alone z first old new only store so (world, stands) is_first client (t, k))
+    not_renewed_answers LogFault r is (t, k) = subst (IsAnswered z old new client client command.Renew) (same_some reply.FaultLog r is)
+        (log_fault_beside t k, λ world stands only first is_first store so. renew_log_failed_alone z first old new only store so (world, stands) is_first client (t, k))
+    not_renewed_answers (Stopped n) r is (t, k) = subst (IsAnswered z old new client client command.Renew) (same_some (reply.Stopped n) r is)
+        (closed_beside t n k, λ world stands only first is_first store so. renew_stopped_alone z first old new only store so (world, stands) is_first client n (t, k))
+    not_renewed_answers (TablesStopped flushed) r is (t, k) = subst (IsAnswered z old new client client command.Renew) (same_some (reply.Halted flushed) r is)
+        (halted_answers z old new command.Renew renewal_is client t flushed k, λ world stands only first is_first store so. renew_halted_alone z first old new only store so (world, stands) is_first client flushed (t, k))
 
     pub not_renewed_breaks : (why : RenewError) → renewal_refusal why ≡ None → Renews z old (Err why) new → BreaksOff old new client command.Renew
     not_renewed_breaks Memory none (t, k) = broke_off z old new client command.Renew k.goes_on

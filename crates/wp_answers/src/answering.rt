@@ -5,6 +5,7 @@ ghost use Rattle.wp_client.specs.Answers.{Answers, IsAnswered, IsDueAlone, Answe
 ghost use Rattle.wp_answers.specs.Fresh.{NamesPublished};
 ghost use Rattle.wp_client.specs.Holdings.{client_of, HoldsTxn, Holds, HoldsFrom};
 ghost use Rattle.wp_answers.specs.Replies.{is_of_txn};
+ghost use Rattle.wp_answers.specs.Uncalled.{LeavesDevices};
 
 use crate::changes::change;
 use crate::decisions::{commit, leave, prepare, rollback};
@@ -51,6 +52,7 @@ fn decide<D: Disk + Drop, R: Wait>(
     ensures holds { HoldsFrom store.now seat.old seat.new txn result.0 }
     ensures answered { IfOk result.1 (AnswersFrom store.now seat.old seat.new txn result.0 command.now) }
     ensures err { OnErr result.1 (BreaksOffFrom seat.old seat.new txn result.0 command.now) }
+    ensures uncalled { OnErr result.1 (LeavesDevices store.now seat.old seat.new command.now txn) }
 {
     match command {
         Command::Begin(name) => begin(store, rt, alloc, seat, txn, name),
@@ -80,6 +82,7 @@ fn change_txn<D: Disk + Drop, R: Wait>(
     ensures holds { HoldsFrom store.now seat.old seat.new txn.old txn.new }
     ensures answered { IfOk result (AnswersFrom store.now seat.old seat.new txn.old txn.new command.now) }
     ensures err { OnErr result (BreaksOffFrom seat.old seat.new txn.old txn.new command.now) }
+    ensures uncalled { OnErr result (LeavesDevices store.now seat.old seat.new command.now txn.old) }
 {
     let (left, outcome) = decide(store, rt, alloc, seat, take_out(txn), command);
     put_back(txn, left);
@@ -100,6 +103,7 @@ fn obey<D: Disk + Drop, R: Wait>(
     ensures answered { IfOk result (IsAnswered store.now seat.old seat.new (client_of held.old) (client_of held.new) command.now) }
     ensures published { IfOk result (NamesPublished store.now seat.old seat.new command.now) }
     ensures err { OnErr result (BreaksOff seat.old seat.new (client_of held.old) command.now) }
+    ensures uncalled { OnErr result (LeavesDevices store.now seat.old seat.new command.now held.old.txn) }
     ensures kept { OnErr result (held.new ≡ held.old) }
 {
     match command {
@@ -139,6 +143,7 @@ pub fn answer<D: Disk + Drop, R: Wait>(
     ensures alone { IfOk result (IsDueAlone store.now seat.old seat.new (client_of held.old) (client_of held.new) command.now) }
     ensures published { IfOk result (NamesPublished store.now seat.old seat.new command.now) }
     ensures err { OnErr result (BreaksOff seat.old seat.new (client_of held.old) command.now) }
+    ensures uncalled { OnErr result (LeavesDevices store.now seat.old seat.new command.now held.old.txn) }
     ensures kept { OnErr result (held.new ≡ held.old) }
 {
     let outcome = obey(store, rt, alloc, seat, held, command);

@@ -6,6 +6,7 @@ ghost use Rattle.wp_client.specs.Holdings.{HoldsTxn, HoldsFrom};
 ghost use Rattle.wp_client.specs.Replies.{asking, acknowledging};
 ghost use Rattle.wp_model.specs.declared.change.Change.{Change};
 ghost use Rattle.wp_answers.specs.Replies.{is_change};
+ghost use Rattle.wp_answers.specs.Uncalled.{LeavesDevices};
 
 use std::alloc::{AllocError, Global};
 use std::sync::Wait;
@@ -52,6 +53,7 @@ fn write_now<D: Disk + Drop, R: Wait>(
     ensures holds { HoldsFrom store.now seat.old seat.new held.Idle held.Idle }
     ensures answered { IfOk result (AnswersFrom store.now seat.old seat.new held.Idle held.Idle command.now) }
     ensures err { OnErr result (BreaksOffFrom seat.old seat.new held.Idle held.Idle command.now) }
+    ensures uncalled { OnErr result (LeavesDevices store.now seat.old seat.new command.now held.Idle) }
 {
     let change = change_of(alloc, command)?;
     match wp_txn::write(store, rt, alloc, seat, change) {
@@ -74,6 +76,7 @@ pub(crate) fn change<D: Disk + Drop, R: Wait>(
     ensures holds { HoldsFrom store.now seat.old seat.new txn.old txn.new }
     ensures answered { IfOk result (AnswersFrom store.now seat.old seat.new txn.old txn.new command.now) }
     ensures err { OnErr result (BreaksOffFrom seat.old seat.new txn.old txn.new command.now) }
+    ensures uncalled { OnErr result (LeavesDevices store.now seat.old seat.new command.now txn.old) }
 {
     match txn {
         HeldTxn::Idle => write_now(store, rt, alloc, seat, command),

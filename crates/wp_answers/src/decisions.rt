@@ -4,6 +4,7 @@ ghost use Rattle.wp_text.specs.declared.script.Command.TheVariants.{Prepare, Com
 ghost use Rattle.wp_client.specs.declared.holdings.HeldTxn.TheVariants as held;
 ghost use Rattle.wp_client.specs.Answers.{AnswersFrom, BreaksOffFrom};
 ghost use Rattle.wp_client.specs.Holdings.{HoldsTxn, HoldsFrom};
+ghost use Rattle.wp_answers.specs.Uncalled.{LeavesDevices};
 
 use std::alloc::{AllocError, Global};
 use std::sync::Wait;
@@ -25,6 +26,7 @@ fn prepare_open<D: Disk + Drop, R: Wait>(
     ensures holds { HoldsFrom store.now seat.old seat.new (held.Open txn) result.0 }
     ensures answered { IfOk result.1 (AnswersFrom store.now seat.old seat.new (held.Open txn) result.0 Prepare) }
     ensures err { OnErr result.1 (BreaksOffFrom seat.old seat.new (held.Open txn) result.0 Prepare) }
+    ensures uncalled { OnErr result.1 (LeavesDevices store.now seat.old seat.new Prepare (held.Open txn)) }
 {
     match wp_txn::prepare(store, rt, alloc, seat, txn) {
         Ok((prepared, n)) => (HeldTxn::Prepared(prepared), Ok(Reply::Prepared(n))),
@@ -44,6 +46,7 @@ fn commit_open<D: Disk + Drop, R: Wait>(
     ensures holds { HoldsFrom store.now seat.old seat.new (held.Open txn) result.0 }
     ensures answered { IfOk result.1 (AnswersFrom store.now seat.old seat.new (held.Open txn) result.0 Commit) }
     ensures err { OnErr result.1 (BreaksOffFrom seat.old seat.new (held.Open txn) result.0 Commit) }
+    ensures uncalled { OnErr result.1 (LeavesDevices store.now seat.old seat.new Commit (held.Open txn)) }
 {
     match wp_txn::commit_now(store, rt, alloc, seat, txn) {
         Ok(n) => (HeldTxn::Idle, Ok(Reply::Committed(n))),
@@ -63,6 +66,7 @@ fn commit_prepared<D: Disk + Drop, R: Wait>(
     ensures holds { HoldsFrom store.now seat.old seat.new (held.Prepared txn) result.0 }
     ensures answered { IfOk result.1 (AnswersFrom store.now seat.old seat.new (held.Prepared txn) result.0 Commit) }
     ensures err { OnErr result.1 (BreaksOffFrom seat.old seat.new (held.Prepared txn) result.0 Commit) }
+    ensures uncalled { OnErr result.1 (LeavesDevices store.now seat.old seat.new Commit (held.Prepared txn)) }
 {
     match wp_txn::commit(store, rt, alloc, seat, txn) {
         Ok(n) => (HeldTxn::Idle, Ok(Reply::Committed(n))),
@@ -82,6 +86,7 @@ fn rollback_prepared<D: Disk + Drop, R: Wait>(
     ensures holds { HoldsFrom store.now seat.old seat.new (held.Prepared txn) result.0 }
     ensures answered { IfOk result.1 (AnswersFrom store.now seat.old seat.new (held.Prepared txn) result.0 Rollback) }
     ensures err { OnErr result.1 (BreaksOffFrom seat.old seat.new (held.Prepared txn) result.0 Rollback) }
+    ensures uncalled { OnErr result.1 (LeavesDevices store.now seat.old seat.new Rollback (held.Prepared txn)) }
 {
     match wp_txn::rollback(store, rt, alloc, seat, txn) {
         Ok(n) => (HeldTxn::Idle, Ok(Reply::RolledBack(n))),
@@ -101,6 +106,7 @@ pub(crate) fn prepare<D: Disk + Drop, R: Wait>(
     ensures holds { HoldsFrom store.now seat.old seat.new txn result.0 }
     ensures answered { IfOk result.1 (AnswersFrom store.now seat.old seat.new txn result.0 Prepare) }
     ensures err { OnErr result.1 (BreaksOffFrom seat.old seat.new txn result.0 Prepare) }
+    ensures uncalled { OnErr result.1 (LeavesDevices store.now seat.old seat.new Prepare txn) }
 {
     match txn {
         HeldTxn::Idle => (HeldTxn::Idle, Ok(Reply::State)),
@@ -121,6 +127,7 @@ pub(crate) fn commit<D: Disk + Drop, R: Wait>(
     ensures holds { HoldsFrom store.now seat.old seat.new txn result.0 }
     ensures answered { IfOk result.1 (AnswersFrom store.now seat.old seat.new txn result.0 Commit) }
     ensures err { OnErr result.1 (BreaksOffFrom seat.old seat.new txn result.0 Commit) }
+    ensures uncalled { OnErr result.1 (LeavesDevices store.now seat.old seat.new Commit txn) }
 {
     match txn {
         HeldTxn::Idle => (HeldTxn::Idle, Ok(Reply::State)),
@@ -141,6 +148,7 @@ pub(crate) fn rollback<D: Disk + Drop, R: Wait>(
     ensures holds { HoldsFrom store.now seat.old seat.new txn result.0 }
     ensures answered { IfOk result.1 (AnswersFrom store.now seat.old seat.new txn result.0 Rollback) }
     ensures err { OnErr result.1 (BreaksOffFrom seat.old seat.new txn result.0 Rollback) }
+    ensures uncalled { OnErr result.1 (LeavesDevices store.now seat.old seat.new Rollback txn) }
 {
     match txn {
         HeldTxn::Idle => (HeldTxn::Idle, Ok(Reply::State)),

@@ -7,6 +7,8 @@ ghost use Rattle.wp_client.specs.Answers.{BreaksOff, IsAnswered};
 ghost use Rattle.wp_answers.specs.Fresh.{NamesPublished};
 ghost use Rattle.wp_client.specs.Holdings.{HoldingsState, client_of, Holds};
 ghost use Rattle.wp_answers.specs.Replies.{renewal_refusal, tables_refusal};
+ghost use Rattle.wp_client.specs.declared.holdings.HeldTxn.{HeldTxn};
+ghost use Rattle.wp_answers.specs.Uncalled.{LeavesDevices};
 
 use std::alloc::{AllocError, Global};
 use std::sync::Wait;
@@ -54,6 +56,7 @@ pub(crate) fn flush<D: Disk + Drop, R: Wait>(
     ensures answered { IfOk result (λ answer. (client : Client) → IsAnswered store.now seat.old seat.new client client Flush answer) }
     ensures published { IfOk result (NamesPublished store.now seat.old seat.new Flush) }
     ensures err { OnErr result ((client : Client) → BreaksOff seat.old seat.new client Flush) }
+    ensures uncalled { OnErr result ((txn : HeldTxn) → LeavesDevices store.now seat.old seat.new Flush txn) }
 {
     match wp_maint::flush(store, rt, seat) {
         Ok(done) => Ok(Reply::Flushed {
@@ -76,6 +79,7 @@ pub(crate) fn compact<D: Disk + Drop, R: Wait>(
     ensures answered { IfOk result (λ answer. (h : HoldingsState) → Holds store.now seat.old h → IsAnswered store.now seat.old seat.new (client_of h) (client_of h) Compact answer) }
     ensures published { IfOk result (NamesPublished store.now seat.old seat.new Compact) }
     ensures err { OnErr result ((client : Client) → BreaksOff seat.old seat.new client Compact) }
+    ensures uncalled { OnErr result ((txn : HeldTxn) → LeavesDevices store.now seat.old seat.new Compact txn) }
 {
     match wp_compact::compact(store, rt, alloc, seat) {
         Ok(done) => Ok(Reply::Compacted {
@@ -97,6 +101,7 @@ pub(crate) fn renew<D: Disk + Drop, R: Wait>(
     ensures answered { IfOk result (λ answer. (client : Client) → IsAnswered store.now seat.old seat.new client client Renew answer) }
     ensures published { IfOk result (NamesPublished store.now seat.old seat.new Renew) }
     ensures err { OnErr result ((client : Client) → BreaksOff seat.old seat.new client Renew) }
+    ensures uncalled { OnErr result ((txn : HeldTxn) → LeavesDevices store.now seat.old seat.new Renew txn) }
 {
     match wp_renew::renew(store, rt, seat) {
         Ok(done) => Ok(Reply::Renewed {

@@ -1,5 +1,5 @@
 -- What an ended store leaves of the devices that it was opened from.
-use Rattle.std.proofs.Common.{◌≡◌, ⊎_elim, inl, inr, ℕ, ◌+◌, ◌≤◌, Bool, true, false, List, [], Some, refl, sym, subst, ap, ◌∙◌, arith}
+use Rattle.std.proofs.Common.{◌≡◌, ◌⊎◌, ⊎_elim, inl, inr, ℕ, ◌+◌, ◌≤◌, Bool, true, false, List, [], Some, refl, sym, subst, ap, ◌∙◌, arith}
 use Rattle.wp_model.specs.declared.entry.Entry.{Entry}
 use Rattle.wp_model.specs.declared.segment.Segment.{Segment}
 use Rattle.wp_model.specs.Flushed.{InstalledEdit}
@@ -65,9 +65,9 @@ module _ {D : Type 0} {z : SharedState D} (asked : ℕ) (disks : DisksUse) {seat
             fronts_trans disks.tables.before opened.tables disks.tables.after
             (subst (λ (ms : List Moment). KeepsFronts disks.tables.before ms) (sym opened.parts.synced) (fronts_synced disks.tables.before itself))
             (subst (λ (s : TableSetState). KeepsFronts s.moments disks.tables.after) same_set since.tables_durable);
-        log_later = omega (arith, opened.found.log.later, since.log_later, wal);
-        manifest_later = omega (arith, opened.found.manifest.later, since.manifest_later, edits);
-        tables_later = omega (arith, opened.found.tables_later, since.tables_later, tables);
+        log_later = omega (arith, opened.found.unfailed.0, since.log_later, wal);
+        manifest_later = omega (arith, opened.found.unfailed.1, since.manifest_later, edits);
+        tables_later = omega (arith, opened.found.unfailed.2, since.tables_later, tables);
       }
 
 -- what is stored then
@@ -86,11 +86,18 @@ module _ {D : Type 0} {z : SharedState D} (s : Serving) {seats : List SeatState}
   abbrev faults : Faults
   faults = faults_in ended
 
-  module _ (closed : faults.log + faults.renewals ≡ one_if ended.writes.closed) (by_device : 1 ≤ faults.log → (ended.writes.closed ≡ true) × (ended.writes.stopped ≡ false)) (behind : 1 ≤ faults.renewals → (ended.edits.halted ≡ true) × (ended.writes.failed ≡ [])) where
+  module _ (closed : faults.log + faults.renewals ≡ one_if ended.writes.closed) (by_device : 1 ≤ faults.log → (ended.writes.closed ≡ true) × (ended.writes.stopped ≡ false)) (behind : 1 ≤ faults.renewals → (ended.edits.halted ≡ true) × (ended.writes.stopped ≡ true) × (ended.writes.failed ≡ [])) where
     no_record : faults.log ≡ 0 → ended.writes.failed ≡ []
     no_record none = elim (none_or_some faults.renewals) [
       | inl nought ↦ ended.none_failed (was_none ended.writes.closed (omega (arith, closed, none, nought)))
-      | inr stop ↦ (behind stop).1
+      | inr stop ↦ (behind stop).2
+    ]
+
+    -- where the log's device did not fail, the log is open, or a renewal stopped it
+    by_no_fault : faults.log ≡ 0 → (ended.writes.closed ≡ false) ⊎ (ended.writes.stopped ≡ true)
+    by_no_fault none = elim (none_or_some faults.renewals) [
+      | inl nought ↦ inl (was_none ended.writes.closed (omega (arith, closed, none, nought)))
+      | inr stop ↦ inr (behind stop).1
     ]
 
     pub crash_leaves : CrashOpens faults ended.opened.wal.id (left_in ended) (failed_in ended) s.disks.log.after s.disks.manifest.after s.disks.tables.after
@@ -103,8 +110,9 @@ module _ {D : Type 0} {z : SharedState D} (s : Serving) {seats : List SeatState}
     pub is_stored : IsStored s.disks s.choice.store.id ended.opened.wal.id (found_in ended) (left_in ended) (failed_in ended) faults
     is_stored =
         let since = ended.since in let old = s.disks in let set = same_set s.choice.store.id s.disks opened ended in
-        let edits_faults = ap (λ (t : TableSetState). t.manifest.log.faults) set in let tables_faults = ap (λ (t : TableSetState). t.faults) set in
-        let wal_faults = ap (λ (w : WalState). w.faults) wal_is in
+        let log_before = ap (λ (w : WalState). w.faults) wal_is ∙ opened.found.unfailed.0 in
+        let manifest_before = ap (λ (t : TableSetState). t.manifest.log.faults) set ∙ opened.found.unfailed.1 in
+        let tables_before = ap (λ (t : TableSetState). t.faults) set ∙ opened.found.unfailed.2 in
         let opens = opened.parts.opened in record {
           made = subst (λ (x : WalState × InstalledEdit). IfKnown old.log.before (λ m. IsUnmadeAt x.1.segment.place m.reads → x.0.id ≡ s.choice.store.id)) (λ i. (sym wal_is i, sym same_edit i)) opens.made;
           spelled = subst (λ (x : WalState × InstalledEdit). IfKnown old.log.before (λ m. IsLogAt x.0.id x.1.segment.place (cut_at z.opened x.1.segment.base) m.reads)) (λ i. (sym wal_is i, sym same_edit i)) opens.found;
@@ -122,10 +130,12 @@ module _ {D : Type 0} {z : SharedState D} (s : Serving) {seats : List SeatState}
           ];
           cause = λ some.
               let k = by_device some in
-              rose_since old.log.faults_before ended.opened.wal.faults old.log.faults_after (omega (arith, opened.found.log.later, wal_faults)) (since.log_cause k.0 k.1);
+              rose_since old.log.faults_before ended.opened.wal.faults old.log.faults_after (omega (arith, log_before)) (since.log_cause k.0 k.1);
+          uncaused = λ none. since.log_unfailed (by_no_fault none) ∙ log_before;
           tables_once = at_most_one ended.edits.halted;
           tables_cause = λ up. ⊎_elim
-              (λ (rose : Rose ended.opened.set.manifest.log.faults old.manifest.faults_after). inl (rose_since old.manifest.faults_before ended.opened.set.manifest.log.faults old.manifest.faults_after (omega (arith, opened.found.manifest.later, edits_faults)) rose))
-              (λ (rose : Rose ended.opened.set.faults old.tables.faults_after). inr (rose_since old.tables.faults_before ended.opened.set.faults old.tables.faults_after (omega (arith, opened.found.tables_later, tables_faults)) rose))
+              (λ (rose : Rose ended.opened.set.manifest.log.faults old.manifest.faults_after). inl (rose_since old.manifest.faults_before ended.opened.set.manifest.log.faults old.manifest.faults_after (omega (arith, manifest_before)) rose))
+              (λ (rose : Rose ended.opened.set.faults old.tables.faults_after). inr (rose_since old.tables.faults_before ended.opened.set.faults old.tables.faults_after (omega (arith, tables_before)) rose))
               (since.tables_cause (was_one ended.edits.halted up));
+          tables_uncaused = λ none. let same = since.tables_unfailed (was_none ended.edits.halted none) in (same.0 ∙ manifest_before, same.1 ∙ tables_before);
         }

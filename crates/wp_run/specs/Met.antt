@@ -37,8 +37,8 @@ named_cut s = cut_at s.history s.edit.segment.base
 -- The log's bytes spelled what was found, at the place that the edit found names, under the id that was asked for where it had none. A
 -- crash leaves the history that is left in the log, at the place that the last edit names, acknowledged, or it and the record that the
 -- log failed to take, whole, of a version that is read. The log failed once at most, or a renewal stopped it behind a fault of the
--- tables; and so did the tables. Where a device failed to take a record or an edit its count has risen. As long as the log is in the
--- segment that was found, what was acknowledged there stays.
+-- tables; and so did the tables. Since before the store was opened the log's count of faults has risen just where the log failed, and
+-- one of the tables' two just where these did. As long as the log is in the segment that was found, what was acknowledged there stays.
 pub record IsStored (disks : DisksUse) (asked id : ℕ) (found left : StoredState) (failed : Untaken) (faults : Faults) : Type 0 where
   pub made : IfKnown disks.log.before (λ m. IsUnmadeAt found.edit.segment.place m.reads → id ≡ asked)
   pub spelled : IfKnown disks.log.before (λ m. IsLogAt id found.edit.segment.place (named_cut found) m.reads)
@@ -49,8 +49,10 @@ pub record IsStored (disks : DisksUse) (asked id : ℕ) (found left : StoredStat
   pub once : faults.log + faults.renewals ≤ 1
   pub behind : faults.renewals ≤ faults.tables
   pub cause : 1 ≤ faults.log → Rose disks.log.faults_before disks.log.faults_after
+  pub uncaused : faults.log ≡ 0 → disks.log.faults_after ≡ disks.log.faults_before
   pub tables_once : faults.tables ≤ 1
   pub tables_cause : 1 ≤ faults.tables → Rose disks.manifest.faults_before disks.manifest.faults_after ⊎ Rose disks.tables.faults_before disks.tables.faults_after
+  pub tables_uncaused : faults.tables ≡ 0 → (disks.manifest.faults_after ≡ disks.manifest.faults_before) × (disks.tables.faults_after ≡ disks.tables.faults_before)
 
 -- So many replies tell a fault of the log, and of the tables, and so many stop the log; one that tells of an earlier fault comes only
 -- where there was one. The last edit is what the replies say.

@@ -34,9 +34,13 @@ IsChoiceOf words (Err other) = ⊥
 abbrev pub most_read : ℕ
 most_read = MOST_BYTES + 1
 
+-- these bytes were read of the source, and no call of it failed
+abbrev pub WereRead : SourceUse → List ℕ → Type 0
+WereRead source bytes = AreBytesRead most_read source.before source.after bytes × (source.faults_after ≡ source.faults_before)
+
 -- the script that the source held
 abbrev pub IsScriptIn : SourceUse → List Part → Type 0
-IsScriptIn source script = (bytes : List ℕ) × AreBytesRead most_read source.before source.after bytes × IsScript bytes script
+IsScriptIn source script = (bytes : List ℕ) × WereRead source bytes × IsScript bytes script
 
 -- The script that a choice runs: that which the source held; or none, where the store is only shown, or the one that is made, and
 -- the source is not called.
@@ -52,7 +56,7 @@ CanMake other = Unit {0}
 
 -- the bytes read are no script, and this is their first fault
 abbrev pub IsOutsideGrammar : SourceUse → Fault → Type 0
-IsOutsideGrammar source fault = (bytes : List ℕ) × AreBytesRead most_read source.before source.after bytes × IsFault bytes fault.line fault.why
+IsOutsideGrammar source fault = (bytes : List ℕ) × WereRead source bytes × IsFault bytes fault.line fault.why
 
 -- why the source gave no script
 abbrev pub IsUnread : SourceUse → Status → Type 0

@@ -1,6 +1,5 @@
 -- How serving a script ended.
 use Rattle.std.specs.Prelude.{◌≡◌, ◌⊎◌, ℕ, true, List}
-use Rattle.std.specs.Io.KnownBytes.{Appends}
 use Rattle.wp_model.specs.declared.entry.Entry.{Entry}
 use Rattle.wp_outside.specs.Faults.{Rose}
 use Rattle.wp_outside.specs.Sink.{AppendsPrefix}
@@ -15,7 +14,7 @@ use Rattle.wp_status.specs.declared.status.Status.{Status}
 use Rattle.wp_status.specs.declared.status.Status.TheVariants as status
 use Rattle.wp_transcript.specs.Transcript.{text_of}
 use Rattle.wp_transcript.specs.Answers.{are_whole, one_fails}
-use Rattle.wp_status.specs.Written.{IsWritten}
+use Rattle.wp_status.specs.Written.{IsWhole, IsWritten}
 use Rattle.wp_run.specs.Headline.{Serving, Headline}
 use Rattle.wp_status.specs.Unopened.{IsUnopened}
 use Rattle.wp_status.specs.Use.{SinkUse}
@@ -60,9 +59,9 @@ faults_of log tables renewals = record { log = log; tables = tables; renewals = 
 
 -- how serving ended, why, what was written and what the devices store
 abbrev pub ServesWith : (s : Serving) → More s → Status → Type 0
-ServesWith s more status.Ok = (text : List ℕ) × AnswersScript s more (faults_of 0 0 0) text × Appends s.sink.before s.sink.after text
-ServesWith s more status.LogFault = (tables : ℕ) × (text : List ℕ) × AnswersScript s more (faults_of 1 tables 0) text × Appends s.sink.before s.sink.after text
-ServesWith s more status.TableFault = (renewals : ℕ) × (text : List ℕ) × AnswersScript s more (faults_of 0 1 renewals) text × Appends s.sink.before s.sink.after text
+ServesWith s more status.Ok = (text : List ℕ) × AnswersScript s more (faults_of 0 0 0) text × IsWhole s.sink text
+ServesWith s more status.LogFault = (tables : ℕ) × (text : List ℕ) × AnswersScript s more (faults_of 1 tables 0) text × IsWhole s.sink text
+ServesWith s more status.TableFault = (renewals : ℕ) × (text : List ℕ) × AnswersScript s more (faults_of 0 1 renewals) text × IsWhole s.sink text
 ServesWith s more status.SinkFault = Rose s.sink.faults_before s.sink.faults_after × (faults : Faults) × (text : List ℕ) × AnswersScript s more faults text × AppendsPrefix s.sink.before s.sink.after text
 ServesWith s more status.Memory = IsUnopened s.choice.store.id s.disks open_error.Memory ⊎ LacksMemory s more
 ServesWith s more (status.Contents damage) = IsUnopened s.choice.store.id s.disks (open_error.Contents damage)

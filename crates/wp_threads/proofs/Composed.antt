@@ -201,10 +201,10 @@ module _ {D : Type 0} {z : SharedState D} {seats : List SeatState} {history : Li
   past_there : {such : Event → Bool} (k : HasSuch such (map past_of (map participant_of seats))) → IsPast (of_seats past_of seats) k.event
   past_there k = (0, k.number, (k.past, (map past_of (map participant_of seats), refl, k.there), k.within))
 
-  stops_behind : 1 ≤ faults.renewals → (ended.edits.halted ≡ true) × (ended.writes.failed ≡ [])
+  stops_behind : 1 ≤ faults.renewals → (ended.edits.halted ≡ true) × (ended.writes.stopped ≡ true) × (ended.writes.failed ≡ [])
   stops_behind stop =
       let k = such_there is_log_stop (map past_of (map participant_of seats)) (omega (arith, stop)) in
-      let there : IsPast (of_seats past_of seats) log_stopped = subst (IsPast (of_seats past_of seats)) (is_the_stop k.event k.is) (past_there k) in (ended.faults.behind there, (ended.faults.unfailed there).1)
+      let there : IsPast (of_seats past_of seats) log_stopped = subst (IsPast (of_seats past_of seats)) (is_the_stop k.event k.is) (past_there k) in (ended.faults.behind there, (ended.faults.unfailed there).1, (ended.faults.unfailed there).2)
 
   fails_by_device : 1 ≤ faults.log → (ended.writes.closed ≡ true) × (ended.writes.stopped ≡ false)
   fails_by_device fault =

@@ -105,7 +105,7 @@ module _ {D : Type 0} {z : SharedState D} {s : SeatState} {history : List Entry}
           subst (λ (entries : List Entry). FaultAsks stops_log (AsksLog entries) alone.places (opened_store (limits_of z) (found_in ended)) new_client over.done answered.replies) (sym (ended.faults.failed e.0 (in_past (log_failed e.0) there)).1) (alone.asked e.0 there)
       by_event (inr e) in_it =
           let there : IsIn log_stopped s.knows.participant.past = subst (λ (x : Event). IsIn x s.knows.participant.past) e in_it in
-          subst (λ (entries : List Entry). FaultAsks stops_log (AsksLog entries) alone.places (opened_store (limits_of z) (found_in ended)) new_client over.done answered.replies) (sym (ended.faults.unfailed (in_past log_stopped there)).1) (alone.asked_none there)
+          subst (λ (entries : List Entry). FaultAsks stops_log (AsksLog entries) alone.places (opened_store (limits_of z) (found_in ended)) new_client over.done answered.replies) (sym (ended.faults.unfailed (in_past log_stopped there)).2) (alone.asked_none there)
 
   asked_tables : alone.store.halted ≡ true → FaultAsks (λ command answer. kinds.is_tables_fault answer) (AsksEdit ended.edits.failed) alone.places (opened_store (limits_of z) (found_in ended)) new_client over.done answered.replies
   asked_tables up =

@@ -7,15 +7,18 @@ use Rattle.wp_replies.specs.Known.{StoredState}
 use Rattle.wp_client.specs.Answers.{Answers, IsDueAlone}
 use Rattle.wp_client.specs.Holdings.{HoldingsState, client_of, Holds}
 use Rattle.wp_answers.specs.Fresh.{NamesPublished}
+use Rattle.wp_answers.specs.Uncalled.{LeavesDevices}
 use Rattle.wp_threads.specs.SoFar.{IsSessionSoFar}
 use Rattle.wp_threads.specs.Over.{Answered, BreaksOffBefore}
 
--- The command was answered, with one reply more, whose number was published meanwhile; or memory was wanting for it.
+-- The command was answered, with one reply more, whose number was published meanwhile; or memory was wanting for it, and no device was
+-- called.
 abbrev pub TakesNext : {D : Type 0} → SharedState D → SeatState → SeatState → HoldingsState → HoldingsState → Command → List Reply → List Reply → Bool → Type 0
 TakesNext z old new was now command before after true =
     (reply : Reply) × (after ≡ before ++ reply ∷ []) × Answers z old new (client_of was) (client_of now) command reply
     × IsDueAlone z old new (client_of was) (client_of now) command reply × NamesPublished z old new command reply
-TakesNext z old new was now command before after false = (after ≡ before) × ((others : List Command) → BreaksOffBefore old new (client_of was).txn (command ∷ others))
+TakesNext z old new was now command before after false =
+    (after ≡ before) × ((others : List Command) → BreaksOffBefore old new (client_of was).txn (command ∷ others)) × LeavesDevices z old new command was.txn
 
 -- All commands were answered, or the first of them. There the session went on, or memory was wanting for the next one.
 pub record HasComeTo {D : Type 0} (z : SharedState D) (found : StoredState) (name : List ℕ) (asked : List Command) (answered : Answered) (s : SeatState) (h : HoldingsState) : Type 0 where

@@ -57,5 +57,5 @@ pub record HaveRun {D : Type 0} (z : SharedState D) (script : List Part) (answer
   -- the log was closed where its device failed, or where a renewal stopped it, which it does behind a fault of the tables alone
   pub closed : (faults_in ended).log + (faults_in ended).renewals ≡ one_if ended.writes.closed
   pub by_device : 1 ≤ (faults_in ended).log → (ended.writes.closed ≡ true) × (ended.writes.stopped ≡ false)
-  pub behind : 1 ≤ (faults_in ended).renewals → (ended.edits.halted ≡ true) × (ended.writes.failed ≡ [])
+  pub behind : 1 ≤ (faults_in ended).renewals → (ended.edits.halted ≡ true) × (ended.writes.stopped ≡ true) × (ended.writes.failed ≡ [])
   pub exact : IsExact (limits_of z) (found_in ended) (left_in ended) (failed_in ended) run (replies_of answered)

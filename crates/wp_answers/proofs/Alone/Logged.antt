@@ -32,7 +32,7 @@ use Rattle.wp_client.specs.Alone.{log_faults, IsOnly, IsStoreOf, AnswersAlone}
 use Rattle.wp_client.proofs.Alone.Published.{total_both, none_if, if_one, in_both, not_counted}
 use Rattle.wp_client.proofs.Growing.{in_back}
 use Rattle.wp_client.proofs.Alone.Worlds.{has_seen, no_log_fault, only_of, was_stopped}
-use Rattle.wp_client.proofs.Alone.Seated.{LeaveTables, AreQuiet, one_quiet, one_leaves, both_leave, both_quiet, Follows, alone_at, follows, follows_on, is_alone, last_over, begins_opened, log_now, log_still, past_still, seen_still, few_now}
+use Rattle.wp_client.proofs.Alone.Seated.{LeaveTables, AreQuiet, one_quiet, one_leaves, both_leave, both_quiet, Follows, alone_at, follows, follows_on, is_alone, last_over, begins_opened, log_now, log_still, past_still, seen_still, such_store}
 use Rattle.wp_answers.proofs.Alone.Putting.{few_put, put_behind}
 use Rattle.wp_client.proofs.Alone.Quiet.{never_stops, never_renews, LeavesStore, quiet_answers}
 
@@ -224,21 +224,7 @@ module _ {D : Type 0} (z : SharedState D) (first : InstalledEdit) (old new : Sea
             let once : one_if true ≡ log_faults new.knows.participant.past =
             (let now = log_now z first old new only store is stood [] events f in let both = total_both (λ (e : Event). one_if (closes_log e)) pre (log_failed es ∷ []) in let none = quiet.log in let not : one_if store.stopped ≡ 0 = ap one_if running in
             omega (arith, now, both, none, not)) in
-            let failed : IsStoreOf z first new.knows.participant (record store { stopped = true }) = record {
-              first_is = is.first_is;
-              at = is.at;
-              base = is.base;
-              risen = is.risen;
-              history = sym seen;
-              opened = begins_opened z first old new only store is stood [] events f;
-              own = few_now z first old new only store is stood events f;
-              stopped = once;
-              limit = is.limit;
-              renewed_limit = is.renewed_limit;
-              installed = still.installed;
-              halted = still.halted;
-              board = still.board;
-            } in record {
+            let failed = such_store z first old new only store is stood events f leave.edits true store.halted store.board once still.halted still.board in record {
               replied = inr (inl (refl, ap calls_log (a.due_is ∙ log_takes store needed r running room) ∙ ap (λ (b : Bool). b || is_renewed r) a.logged));
               place = 0;
               store_is = subst (λ (x : Store). IsStoreOf z first new.knows.participant x) (sym (store_failed store was c needed r entries a)) failed;

@@ -26,11 +26,11 @@ use Rattle.wp_replies.specs.Client.{Client}
 use Rattle.wp_replies.specs.Due.{Store, due, renewed, store_after}
 use Rattle.wp_replies.specs.Kind.{is_installed, calls_log}
 use Rattle.wp_replies.specs.Tables.{after_renewal}
-use Rattle.wp_client.specs.Alone.{log_faults, IsOnly, IsStoreOf, AnswersAlone}
+use Rattle.wp_client.specs.Alone.{log_faults, IsOnly, IsStoreOf, AnswersAlone, tables_faults}
 use Rattle.wp_client.proofs.Alone.Published.{none_if, if_one, not_counted}
 use Rattle.wp_client.proofs.Growing.{in_back}
 use Rattle.wp_client.proofs.Alone.Worlds.{no_log_fault, only_of, was_stopped}
-use Rattle.wp_client.proofs.Alone.Seated.{AreQuiet, one_quiet, both_quiet, follows_on, begins_opened, few_now, log_now, log_still, edit_still, tables_now, board_still, seen_still, is_alone}
+use Rattle.wp_client.proofs.Alone.Seated.{AreQuiet, one_quiet, both_quiet, follows_on, log_now, log_still, tables_now, board_still, seen_still, is_alone, such_store}
 use Rattle.wp_client.proofs.Alone.Quiet.{quiet_answers}
 use Rattle.wp_answers.proofs.Alone.TablesFound.{AsksTablesFor, makes_renewed, last_is, halted_answers, nothing_answers, installs_answers, store_halted, runs}
 
@@ -138,21 +138,9 @@ module _ {D : Type 0} (z : SharedState D) (first : InstalledEdit) (old new : Sea
       let f = follows_on _ z old new _ k.goes_on events refl refl in
       let seen = seen_still z first old new only store is stood events f in
       let open_ : one_if store.stopped ≡ 0 = ap one_if (log_runs e k.found k.busy.unclosed) in
-      let has : IsStoreOf z first new.knows.participant (record store { stopped = true }) = record {
-        first_is = is.first_is;
-        at = is.at;
-        base = is.base;
-        risen = is.risen;
-        history = sym seen;
-        opened = begins_opened z first old new only store is stood [] events f;
-        own = few_now z first old new only store is stood events f;
-        stopped = let now = log_now z first old new only store is stood [] events f in omega (arith, now, open_);
-        limit = is.limit;
-        renewed_limit = is.renewed_limit;
-        installed = edit_still z first old new only store is stood [] events f (λ edit. refl);
-        halted = let now = tables_now z first old new only store is stood [] events f in omega (arith, now);
-        board = board_still z first old new only store is stood [] events f (untold e k.found);
-      } in record {
+      let closes : one_if true ≡ log_faults new.knows.participant.past = (let now = log_now z first old new only store is stood [] events f in omega (arith, now, open_)) in
+      let halts : one_if store.halted ≡ tables_faults new.knows.participant.past = (let now = tables_now z first old new only store is stood [] events f in omega (arith, now)) in
+      let has = such_store z first old new only store is stood events f (λ edit. refl) true store.halted store.board closes halts (board_still z first old new only store is stood [] events f (untold e k.found)) in record {
         replied = inr (inl (refl, ap calls_log (renewal_due e k.found k.busy.running k.busy.unclosed (other_base e k.found seen k.busy.below))));
         place = 0;
         store_is = subst (λ (x : Store). IsStoreOf z first new.knows.participant x) (sym log_stops) has;
@@ -191,21 +179,9 @@ module _ {D : Type 0} (z : SharedState D) (first : InstalledEdit) (old new : Sea
       let seen = seen_still z first old new only store is stood events f in
       let open_ : one_if store.stopped ≡ 0 = ap one_if (log_runs e k.found k.busy.unclosed) in
       let not : one_if store.halted ≡ 0 = ap one_if (runs z first old new only store is stood was_last e k.found k.busy.running) in
-      let has : IsStoreOf z first new.knows.participant (record store { halted = true; stopped = true }) = record {
-        first_is = is.first_is;
-        at = is.at;
-        base = is.base;
-        risen = is.risen;
-        history = sym seen;
-        opened = begins_opened z first old new only store is stood [] events f;
-        own = few_now z first old new only store is stood events f;
-        stopped = let now = log_now z first old new only store is stood [] events f in omega (arith, now, open_);
-        limit = is.limit;
-        renewed_limit = is.renewed_limit;
-        installed = edit_still z first old new only store is stood [] events f (λ edit. refl);
-        halted = let now = tables_now z first old new only store is stood [] events f in omega (arith, now, not);
-        board = board_still z first old new only store is stood [] events f (untold e k.found k.asked);
-      } in record {
+      let closes : one_if true ≡ log_faults new.knows.participant.past = (let now = log_now z first old new only store is stood [] events f in omega (arith, now, open_)) in
+      let halts : one_if true ≡ tables_faults new.knows.participant.past = (let now = tables_now z first old new only store is stood [] events f in omega (arith, now, not)) in
+      let has = such_store z first old new only store is stood events f (λ edit. refl) true true store.board closes halts (board_still z first old new only store is stood [] events f (untold e k.found k.asked)) in record {
         replied = inr (inr (refl, ap is_installed (renewal_due e k.found k.busy.running k.busy.unclosed (other_base e k.found seen k.busy.below))));
         place = 0;
         store_is = subst (λ (x : Store). IsStoreOf z first new.knows.participant x) (sym (store_halted store client command.Renew ready (after_renewal store.history 0 store.installed) (asks 0 seen))) has;

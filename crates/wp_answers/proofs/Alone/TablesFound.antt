@@ -29,7 +29,7 @@ use Rattle.wp_replies.specs.Plan.{plan, asked_of}
 use Rattle.wp_client.specs.Alone.{log_faults, tables_faults, IsOnly, IsStoreOf, AnswersAlone}
 use Rattle.wp_client.proofs.Alone.Published.{none_if, if_one, not_counted}
 use Rattle.wp_client.proofs.Alone.Worlds.{only_of}
-use Rattle.wp_client.proofs.Alone.Seated.{last_over, AreQuiet, one_quiet, Follows, follows_on, alone_at, begins_opened, few_now, log_still, edit_still, tables_now, board_still, seen_still}
+use Rattle.wp_client.proofs.Alone.Seated.{last_over, AreQuiet, one_quiet, Follows, follows_on, alone_at, begins_opened, few_now, log_still, tables_now, board_still, seen_still, such_store}
 use Rattle.wp_client.proofs.Alone.Quiet.{never_stops, quiet_answers}
 
 -- where the tables are not halted, the command is answered so, and has the tables take this edit; a renewal puts the log's segment at
@@ -189,21 +189,9 @@ module _ {D : Type 0} (z : SharedState D) (first : InstalledEdit) (old new : Sea
           let seen = seen_still z first old new only store is stood events f in
           let a = asks seen in
           let not : one_if store.halted ≡ 0 = ap one_if (runs running) in
-          let has : IsStoreOf z first new.knows.participant (record store { halted = true }) = record {
-            first_is = is.first_is;
-            at = is.at;
-            base = is.base;
-            risen = is.risen;
-            history = sym seen;
-            opened = begins_opened z first old new only store is stood [] events f;
-            own = few_now z first old new only store is stood events f;
-            stopped = log_still z first old new only store is stood [] events f refl;
-            limit = is.limit;
-            renewed_limit = is.renewed_limit;
-            installed = edit_still z first old new only store is stood [] events f (λ edit. refl);
-            halted = let now = tables_now z first old new only store is stood [] events f in omega (arith, now, not);
-            board = board_still z first old new only store is stood [] events f (λ label n there. untold label n there);
-          } in record {
+          let halts : one_if true ≡ tables_faults new.knows.participant.past = (let now = tables_now z first old new only store is stood [] events f in omega (arith, now, not)) in
+          let has = such_store z first old new only store is stood events f (λ edit. refl) store.stopped true store.board (log_still z first old new only store is stood [] events f refl) halts
+          (board_still z first old new only store is stood [] events f (λ label n there. untold label n there)) in record {
             replied = inr (inr (refl, ap is_installed (a.due_is ∙ ap (λ (b : Bool). if b then reply.Halted store.installed.flushed else ready) (runs running)) ∙ installs));
             place = a.place;
             store_is = subst (λ (x : Store). IsStoreOf z first new.knows.participant x) (sym (store_halted store was c ready next a ∙ ap (λ (b : Bool). record store { halted = true; stopped = if b then true else store.stopped }) plain)) has;

@@ -22,7 +22,7 @@ use Rattle.wp_replies.specs.Due as due
 use Rattle.wp_client.specs.Alone.{IsOnly, IsStoreOf, AnswersAlone}
 use Rattle.wp_client.proofs.Alone.Published.{in_both, not_counted}
 use Rattle.wp_client.proofs.Alone.Worlds.{was_told}
-use Rattle.wp_client.proofs.Alone.Seated.{none_quiet, one_quiet, follows_on, is_alone, begins_opened, few_now, log_still, edit_still, tables_now, seen_still}
+use Rattle.wp_client.proofs.Alone.Seated.{none_quiet, one_quiet, follows_on, is_alone, log_still, tables_now, seen_still, such_store}
 use Rattle.wp_client.proofs.Alone.Quiet.{quiet_answers}
 
 -- the store once something was told
@@ -48,21 +48,8 @@ module _ {D : Type 0} (z : SharedState D) (first : InstalledEdit) (old new : Sea
       let f = follows_on _ z old new _ k.1 events refl refl in
       let seen = seen_still z first old new only store is stood events f in
       let n_is : n ≡ length store.history = k.0 ∙ ap (λ (h : List Entry). length h) seen in
-      let grown : IsStoreOf z first new.knows.participant (record store { board = finite.insert store.board label n }) = record {
-        first_is = is.first_is;
-        at = is.at;
-        base = is.base;
-        risen = is.risen;
-        history = sym seen;
-        opened = begins_opened z first old new only store is stood [] events f;
-        own = few_now z first old new only store is stood events f;
-        stopped = log_still z first old new only store is stood [] events f refl;
-        limit = is.limit;
-        renewed_limit = is.renewed_limit;
-        installed = edit_still z first old new only store is stood [] events f (λ edit. refl);
-        halted = let now = tables_now z first old new only store is stood [] events f in omega (arith, now);
-        board = λ other. (known f.past other, back f.past other);
-      } in record {
+      let grown = such_store z first old new only store is stood events f (λ edit. refl) store.stopped store.halted (finite.insert store.board label n) (log_still z first old new only store is stood [] events f refl)
+      (let now = tables_now z first old new only store is stood [] events f in omega (arith, now)) (λ other. (known f.past other, back f.past other)) in record {
         replied = inl (ap reply.Told n_is);
         place = 0;
         store_is = subst (λ (x : Store). IsStoreOf z first new.knows.participant x) (sym (store_told store client label n)) grown;

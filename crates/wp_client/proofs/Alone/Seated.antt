@@ -1,12 +1,13 @@
 -- What a call leaves of a seat that is alone, where the seat then stands in a world: the history is as the store has it, but for
 -- what the call put there.
-use Rattle.std.proofs.Common.{◌≡◌, ⊎_elim, ℕ, ◌+◌, ◌≤◌, true, List, [], ◌∷◌, ◌++◌, length, refl, sym, subst, ap, ◌∙◌, append-nil, is_some, arith}
+use Rattle.std.proofs.Common.{◌≡◌, ⊎_elim, ℕ, ◌+◌, ◌≤◌, Bool, true, List, [], ◌∷◌, ◌++◌, length, refl, sym, subst, ap, ◌∙◌, append-nil, is_some, arith}
 use Rattle.std.specs.Prelude.{◌↔◌}
 use Rattle.std.specs.FinMap as finite
 use mathlib.Core.Option.{some}
 use lib.ListN.{get_elem?}
 use Rattle.wp_model.specs.declared.entry.Entry.{Entry}
 use Rattle.wp_model.specs.Flushed.{InstalledEdit}
+use Rattle.wp_model.specs.LockState.{Labels}
 use Rattle.wp_core.specs.Alone.{IsAlone}
 use Rattle.wp_core.specs.Lists.{IsIn, one_if}
 use Rattle.wp_core.specs.World.{Participant, Actor, World}
@@ -204,8 +205,10 @@ module _ {D : Type 0} (z : SharedState D) (first : InstalledEdit) (old new : Sea
     pub seen_still : new.knows.participant.seen ≡ store.history
     seen_still = sym (seen_whole w stood.1.reached new.knows (is_alone [] events f) (opened_is new.knows.participant.seen (begins_opened [] events f)) few_now) ∙ history_still
 
-    pub same_store : AreQuiet events → IsStoreOf z first new.knows.participant store
-    same_store quiet = let told_still = past_still [] events f quiet.leave in record {
+    -- The store is as it was, with the same last edit, but that its log may be closed now, and its tables halted, and something told.
+    pub such_store : ((edit : InstalledEdit) → last_installed edit events ≡ edit) → (closed failed : Bool) (labels : Labels) → one_if closed ≡ log_faults new.knows.participant.past → one_if failed ≡ tables_faults new.knows.participant.past
+        → ((label : List ℕ) → (is_some (finite.get labels label) ≡ true) ↔ ((n : ℕ) × IsIn (told label n) new.knows.participant.past)) → IsStoreOf z first new.knows.participant (record store { stopped = closed; halted = failed; board = labels })
+    such_store none closed failed labels closes halts board = record {
       first_is = is.first_is;
       at = is.at;
       base = is.base;
@@ -213,10 +216,14 @@ module _ {D : Type 0} (z : SharedState D) (first : InstalledEdit) (old new : Sea
       history = sym seen_still;
       opened = begins_opened [] events f;
       own = few_now;
-      stopped = log_still [] events f quiet.log;
+      stopped = closes;
       limit = is.limit;
       renewed_limit = is.renewed_limit;
-      installed = told_still.installed;
-      halted = told_still.halted;
-      board = told_still.board;
+      installed = edit_still [] events f none;
+      halted = halts;
+      board = board;
     }
+
+    pub same_store : AreQuiet events → IsStoreOf z first new.knows.participant store
+    same_store quiet =
+        let tells = past_still [] events f quiet.leave in such_store quiet.leave.edits store.stopped store.halted store.board (log_still [] events f quiet.log) tells.halted tells.board

@@ -22,3 +22,6 @@ returns-clause-err g c = rw c.shows_world.ensures.same c.obey-outcome.ensures.er
 
 pub returns-clause-published : goal.returns-clause-published
 returns-clause-published g c = rw c.shows_world.ensures.same c.obey-outcome.ensures.published
+
+pub returns-clause-uncalled : goal.returns-clause-uncalled
+returns-clause-uncalled g c = rw c.shows_world.ensures.same c.obey-outcome.ensures.uncalled

@@ -11,3 +11,6 @@ returns-clause-answered g c = rw (c.put_back.ensures, ← c.take_out.ensures.val
 
 pub returns-clause-err : goal.returns-clause-err
 returns-clause-err g c = rw (c.put_back.ensures, ← c.take_out.ensures.value) c.decide-left.ensures.err
+
+pub returns-clause-uncalled : goal.returns-clause-uncalled
+returns-clause-uncalled g c = rw (← c.take_out.ensures.value) c.decide-left.ensures.uncalled

@@ -1,3 +1,5 @@
+use Rattle.std.proofs.Common.{inr}
+use Rattle.wp_client.proofs.WholeClients.{if_broken}
 use Rattle.wp_answers.proofs.answering.decide.Goals as goal
 
 pub returns-in-Begin-clause-answered : goal.returns-in-Begin-clause-answered
@@ -32,3 +34,18 @@ returns-in-Rollback-clause-err g c = rw c.in-Rollback.is c.rollback.ensures.err
 
 pub returns-in-Leave-clause-answered : goal.returns-in-Leave-clause-answered
 returns-in-Leave-clause-answered g c = rw c.in-Leave.is c.leave-left.ensures.answered
+
+pub returns-in-Begin-clause-uncalled : goal.returns-in-Begin-clause-uncalled
+returns-in-Begin-clause-uncalled g c = rw c.in-Begin.is (if_broken c.begin.result.1 (inr tt))
+
+pub returns-in-Take-clause-uncalled : goal.returns-in-Take-clause-uncalled
+returns-in-Take-clause-uncalled g c = rw c.in-Take.is (if_broken c.take.result.1 (inr tt))
+
+pub returns-in-Prepare-clause-uncalled : goal.returns-in-Prepare-clause-uncalled
+returns-in-Prepare-clause-uncalled g c = rw c.in-Prepare.is c.prepare.ensures.uncalled
+
+pub returns-in-Commit-clause-uncalled : goal.returns-in-Commit-clause-uncalled
+returns-in-Commit-clause-uncalled g c = rw c.in-Commit.is c.commit.ensures.uncalled
+
+pub returns-in-Rollback-clause-uncalled : goal.returns-in-Rollback-clause-uncalled
+returns-in-Rollback-clause-uncalled g c = rw c.in-Rollback.is c.rollback.ensures.uncalled

@@ -1,7 +1,8 @@
-use Rattle.std.proofs.Common.{sym, subst}
+use Rattle.std.proofs.Common.{inr, sym, subst}
+use Rattle.std.proofs.lemmas.Result.{on_err_weaker}
 use Rattle.wp_text.specs.declared.script.Command.TheVariants as command
 use Rattle.wp_client.specs.Holdings.{client_of, Holds}
-use Rattle.wp_client.proofs.WholeClients.{whole_answers, whole_breaks, any_answers, held_answers, any_breaks, kept_breaks, whole_holds}
+use Rattle.wp_client.proofs.WholeClients.{if_broken, whole_answers, whole_breaks, any_answers, held_answers, any_breaks, kept_breaks, whole_holds}
 use Rattle.wp_client.proofs.Staying.{keeps_holds}
 use Rattle.wp_answers.proofs.answering.obey.Goals as goal
 
@@ -127,3 +128,36 @@ returns-in-Renew-clause-answered g c = rw c.in-Renew.is (any_answers c.args.stor
 
 pub returns-in-Renew-clause-err : goal.returns-in-Renew-clause-err
 returns-in-Renew-clause-err g c = rw c.in-Renew.is (any_breaks c.args.store.now c.args.seat.now c.renew.new.seat command.Renew c.renew.result (client_of c.args.held.now) c.renew.ensures.err)
+
+pub returns-in-Put-clause-uncalled : goal.returns-in-Put-clause-uncalled
+returns-in-Put-clause-uncalled g c = rw (← c.held-in-Put.view_is) c.change.ensures.uncalled
+
+pub returns-in-Begin-clause-uncalled : goal.returns-in-Begin-clause-uncalled
+returns-in-Begin-clause-uncalled g c = rw (← c.held-in-Begin.view_is) c.change_txn.ensures.uncalled
+
+pub returns-in-Get-clause-uncalled : goal.returns-in-Get-clause-uncalled
+returns-in-Get-clause-uncalled g c = rw c.in-Get.is (if_broken c.get.result (inr tt))
+
+pub returns-in-GetAt-clause-uncalled : goal.returns-in-GetAt-clause-uncalled
+returns-in-GetAt-clause-uncalled g c = rw c.in-GetAt.is (if_broken c.get_at.result (inr tt))
+
+pub returns-in-Snap-clause-uncalled : goal.returns-in-Snap-clause-uncalled
+returns-in-Snap-clause-uncalled g c = rw c.in-Snap.is (if_broken c.snap.result (inr tt))
+
+pub returns-in-Free-clause-uncalled : goal.returns-in-Free-clause-uncalled
+returns-in-Free-clause-uncalled g c = rw c.in-Free.is (if_broken c.free.result (inr tt))
+
+pub returns-in-Tell-clause-uncalled : goal.returns-in-Tell-clause-uncalled
+returns-in-Tell-clause-uncalled g c = rw c.in-Tell.is (if_broken c.tell.result (inr tt))
+
+pub returns-in-Hear-clause-uncalled : goal.returns-in-Hear-clause-uncalled
+returns-in-Hear-clause-uncalled g c = rw c.in-Hear.is (if_broken c.hear.result (inr tt))
+
+pub returns-in-Flush-clause-uncalled : goal.returns-in-Flush-clause-uncalled
+returns-in-Flush-clause-uncalled g c = rw c.in-Flush.is (on_err_weaker c.flush.result (λ k. k c.args.held.now.txn) c.flush.ensures.uncalled)
+
+pub returns-in-Compact-clause-uncalled : goal.returns-in-Compact-clause-uncalled
+returns-in-Compact-clause-uncalled g c = rw c.in-Compact.is (on_err_weaker c.compact.result (λ k. k c.args.held.now.txn) c.compact.ensures.uncalled)
+
+pub returns-in-Renew-clause-uncalled : goal.returns-in-Renew-clause-uncalled
+returns-in-Renew-clause-uncalled g c = rw c.in-Renew.is (on_err_weaker c.renew.result (λ k. k c.args.held.now.txn) c.renew.ensures.uncalled)

@@ -1,9 +1,10 @@
-use Rattle.std.proofs.Common.{◌≡◌, Ok, Err, Some, subst, sym}
+use Rattle.std.proofs.Common.{◌≡◌, inr, Ok, Err, Some, subst, sym}
 use Rattle.std.proofs.lemmas.Result.{IfOk-weaker, on_err_weaker}
 use Rattle.wp_client.specs.declared.holdings.HeldTxn.TheVariants as held
 use Rattle.wp_client.specs.Answers.{AnswersFrom}
 use Rattle.wp_client.specs.Replies.{refusal}
 use Rattle.wp_answers.proofs.AtOnce.{at_once_holds, at_once_answers, at_once_refused, at_once_named, at_once_breaks}
+use Rattle.wp_answers.proofs.Uncalled.{at_once}
 use Rattle.wp_answers.proofs.changes.write_now.Goals as goal
 
 pub returns-in-Ok-clause-holds : goal.returns-in-Ok-clause-holds
@@ -31,3 +32,7 @@ returns-in-Err-clause-err g c =
 
 pub refusal-requires : goal.refusal-requires
 refusal-requires g c = at_once_named c.args.store.now c.args.seat.now c.write.new.seat c.in_ok-change.change c.in-Err.why ((c.in-Err.ensures {u = tt}).answers)
+
+pub returns-in-Err-clause-uncalled : goal.returns-in-Err-clause-uncalled
+returns-in-Err-clause-uncalled g c =
+    on_err_weaker c.refusal.result (λ none. inr (at_once c.args.store.now c.args.seat.now c.write.new.seat c.in_ok-change.change c.args.command.now (c.in_ok-change.ensures {u = tt}) c.in-Err.why none ((c.in-Err.ensures {u = tt}).before_log))) c.refusal.ensures.err

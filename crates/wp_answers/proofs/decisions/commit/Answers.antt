@@ -30,3 +30,9 @@ returns-in-Prepared-clause-answered g c = rw c.in-Prepared.is c.commit_prepared.
 
 pub returns-in-Prepared-clause-err : goal.returns-in-Prepared-clause-err
 returns-in-Prepared-clause-err g c = rw c.in-Prepared.is c.commit_prepared.ensures.err
+
+pub returns-in-Open-clause-uncalled : goal.returns-in-Open-clause-uncalled
+returns-in-Open-clause-uncalled g c = rw c.in-Open.is c.commit_open.ensures.uncalled
+
+pub returns-in-Prepared-clause-uncalled : goal.returns-in-Prepared-clause-uncalled
+returns-in-Prepared-clause-uncalled g c = rw c.in-Prepared.is c.commit_prepared.ensures.uncalled

@@ -1,4 +1,4 @@
-use Rattle.std.proofs.Common.{◌≡◌, [], Some, ap}
+use Rattle.std.proofs.Common.{◌≡◌, inr, [], Some, ap}
 use Rattle.std.proofs.lemmas.Result.{IfOk-weaker, on_err_weaker}
 use Rattle.wp_model.specs.declared.entry.Entry.TheVariants as entry
 use Rattle.wp_text.specs.declared.reply.Reply.TheVariants as reply
@@ -8,6 +8,7 @@ use Rattle.wp_client.specs.Answers.{AnswersFrom}
 use Rattle.wp_client.specs.Replies.{refusal}
 use Rattle.wp_client.proofs.Clients.{answers_from, breaks_from}
 use Rattle.wp_answers.proofs.Decides.{committed_now_answers, committed_now_holds, open_refused_answers, commit_now_refused_due, open_refused_named, open_refused_breaks, open_refused_holds, commit_now_logged}
+use Rattle.wp_answers.proofs.Uncalled.{before_log}
 use Rattle.wp_answers.proofs.decisions.commit_open.Goals as goal
 
 pub returns-in-Ok-clause-holds : goal.returns-in-Ok-clause-holds
@@ -36,3 +37,6 @@ returns-in-Err-clause-err g c = let z = c.args.store.now in let s = c.args.seat.
 pub refusal-requires : goal.refusal-requires
 refusal-requires g c = let z = c.args.store.now in let s = c.args.seat.now in let t = c.commit_now.new.seat in let was = c.args.txn in let left = c.in-Err.field-0.txn in let why = c.in-Err.field-0.why in
     open_refused_named z s t why command.Commit was left (entry.Write was.batch) [] (commit_now_logged [] was) c.in-Err.ensures.refused
+
+pub returns-in-Err-clause-uncalled : goal.returns-in-Err-clause-uncalled
+returns-in-Err-clause-uncalled g c = let s = c.args.seat.now in on_err_weaker c.refusal.result (λ none. inr (before_log c.args.store.now s c.commit_now.new.seat s.knows.participant c.in-Err.field-0.why none c.in-Err.ensures.before_log)) c.refusal.ensures.err

@@ -1,4 +1,4 @@
-use Rattle.std.proofs.Common.{◌≡◌, [], Some, ap}
+use Rattle.std.proofs.Common.{◌≡◌, inr, [], Some, ap}
 use Rattle.std.proofs.lemmas.Result.{IfOk-weaker, on_err_weaker}
 use Rattle.wp_text.specs.declared.reply.Reply.TheVariants as reply
 use Rattle.wp_text.specs.declared.script.Command.TheVariants as command
@@ -8,6 +8,7 @@ use Rattle.wp_client.specs.Answers.{AnswersFrom}
 use Rattle.wp_client.specs.Replies.{refusal}
 use Rattle.wp_client.proofs.Clients.{answers_from, breaks_from}
 use Rattle.wp_answers.proofs.Decides.{committed_answers, committed_holds, prepared_refused_answers, commit_refused_due, prepared_refused_named, prepared_refused_breaks, prepared_refused_holds, commit_logged}
+use Rattle.wp_answers.proofs.Uncalled.{before_log}
 use Rattle.wp_answers.proofs.decisions.commit_prepared.Goals as goal
 
 pub returns-in-Ok-clause-holds : goal.returns-in-Ok-clause-holds
@@ -36,3 +37,6 @@ returns-in-Err-clause-err g c = let z = c.args.store.now in let s = c.args.seat.
 pub refusal-requires : goal.refusal-requires
 refusal-requires g c = let z = c.args.store.now in let s = c.args.seat.now in let t = c.commit.new.seat in let was = c.args.txn in let left = c.in-Err.field-0.txn in let why = c.in-Err.field-0.why in
     prepared_refused_named z s t why command.Commit was left 1 AsksCommit [] (commit_logged [] t.knows.participant.seen was) c.in-Err.ensures.refused
+
+pub returns-in-Err-clause-uncalled : goal.returns-in-Err-clause-uncalled
+returns-in-Err-clause-uncalled g c = let s = c.args.seat.now in on_err_weaker c.refusal.result (λ none. inr (before_log c.args.store.now s c.commit.new.seat s.knows.participant c.in-Err.field-0.why none c.in-Err.ensures.before_log)) c.refusal.ensures.err

@@ -21,3 +21,6 @@ returns-in-Open-clause-answered g c = rw c.in-Open.is c.prepare_open.ensures.ans
 
 pub returns-in-Open-clause-err : goal.returns-in-Open-clause-err
 returns-in-Open-clause-err g c = rw c.in-Open.is c.prepare_open.ensures.err
+
+pub returns-in-Open-clause-uncalled : goal.returns-in-Open-clause-uncalled
+returns-in-Open-clause-uncalled g c = rw c.in-Open.is c.prepare_open.ensures.uncalled

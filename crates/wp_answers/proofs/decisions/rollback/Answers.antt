@@ -30,3 +30,6 @@ returns-in-Prepared-clause-answered g c = rw c.in-Prepared.is c.rollback_prepare
 
 pub returns-in-Prepared-clause-err : goal.returns-in-Prepared-clause-err
 returns-in-Prepared-clause-err g c = rw c.in-Prepared.is c.rollback_prepared.ensures.err
+
+pub returns-in-Prepared-clause-uncalled : goal.returns-in-Prepared-clause-uncalled
+returns-in-Prepared-clause-uncalled g c = rw c.in-Prepared.is c.rollback_prepared.ensures.uncalled

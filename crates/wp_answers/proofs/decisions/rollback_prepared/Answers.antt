@@ -1,4 +1,4 @@
-use Rattle.std.proofs.Common.{◌≡◌, [], Some, ap}
+use Rattle.std.proofs.Common.{◌≡◌, inr, [], Some, ap}
 use Rattle.std.proofs.lemmas.Result.{IfOk-weaker, on_err_weaker}
 use Rattle.wp_text.specs.declared.reply.Reply.TheVariants as reply
 use Rattle.wp_text.specs.declared.script.Command.TheVariants as command
@@ -8,6 +8,7 @@ use Rattle.wp_client.specs.Answers.{AnswersFrom}
 use Rattle.wp_client.specs.Replies.{refusal}
 use Rattle.wp_client.proofs.Clients.{answers_from, breaks_from}
 use Rattle.wp_answers.proofs.Decides.{rolled_back_answers, rolled_back_holds, prepared_refused_answers, rollback_refused_due, prepared_refused_named, prepared_refused_breaks, prepared_refused_holds, rollback_logged}
+use Rattle.wp_answers.proofs.Uncalled.{behind_read}
 use Rattle.wp_answers.proofs.decisions.rollback_prepared.Goals as goal
 
 pub returns-in-Ok-clause-holds : goal.returns-in-Ok-clause-holds
@@ -36,3 +37,6 @@ returns-in-Err-clause-err g c = let z = c.args.store.now in let s = c.args.seat.
 pub refusal-requires : goal.refusal-requires
 refusal-requires g c = let z = c.args.store.now in let s = c.args.seat.now in let t = c.rollback.new.seat in let was = c.args.txn in let left = c.in-Err.field-0.txn in let why = c.in-Err.field-0.why in
     prepared_refused_named z s t why command.Rollback was left 2 AsksRollback [] (rollback_logged [] t.knows.participant.seen was) c.in-Err.ensures.refused
+
+pub returns-in-Err-clause-uncalled : goal.returns-in-Err-clause-uncalled
+returns-in-Err-clause-uncalled g c = on_err_weaker c.refusal.result (λ none. inr (behind_read c.args.store.now c.args.seat.now c.rollback.new.seat c.in-Err.field-0.why none c.in-Err.ensures.before_log)) c.refusal.ensures.err

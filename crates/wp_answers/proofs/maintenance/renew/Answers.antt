@@ -1,4 +1,4 @@
-use Rattle.std.proofs.Common.{◌≡◌, Ok, Err, Some}
+use Rattle.std.proofs.Common.{◌≡◌, inr, Ok, Err, Some}
 use Rattle.std.proofs.lemmas.Result.{IfOk-weaker, on_err_weaker}
 use Rattle.wp_text.specs.declared.script.Command.TheVariants as command
 use Rattle.wp_replies.specs.Client.{Client}
@@ -7,6 +7,7 @@ use Rattle.wp_answers.specs.Fresh.{NamesPublished}
 use Rattle.wp_answers.specs.Replies.{renewal_refusal}
 use Rattle.wp_answers.proofs.Refusals.{renewal_refused}
 use Rattle.wp_answers.proofs.Renewing.{renewed_answers, not_renewed_answers, not_renewed_breaks, renewal_holds}
+use Rattle.wp_answers.proofs.Uncalled.{of_renewal}
 use Rattle.wp_answers.proofs.maintenance.renew.Goals as goal
 
 pub returns-in-Ok-clause-holds : goal.returns-in-Ok-clause-holds
@@ -35,3 +36,7 @@ returns-in-Err-clause-published g c =
 pub returns-in-Err-clause-err : goal.returns-in-Err-clause-err
 returns-in-Err-clause-err g c =
     on_err_weaker c.renewal_refusal.result (λ none client. not_renewed_breaks c.args.store.now c.args.seat.now c.renew.new.seat client c.in-Err.why none ((c.in-Err.ensures {u = tt}).answers)) c.renewal_refusal.ensures.err
+
+pub returns-in-Err-clause-uncalled : goal.returns-in-Err-clause-uncalled
+returns-in-Err-clause-uncalled g c =
+    on_err_weaker c.renewal_refusal.result (λ none txn. inr (of_renewal c.args.store.now c.args.seat.now c.renew.new.seat c.in-Err.why none ((c.in-Err.ensures {u = tt}).answers))) c.renewal_refusal.ensures.err
