@@ -1,6 +1,7 @@
 //! The runs of a file's cases, one after the other.
 
 use crate::bytes::{Named, bytes_of};
+use crate::counts::{Counts, raise};
 use crate::judge::{check_end, check_opened};
 use crate::play::{Outcome, Stored, play};
 use crate::report::{Report, text_of};
@@ -24,9 +25,6 @@ pub(crate) struct Cases<'a> {
     run: Option<Run<'a>>,
     /// Whether it was told that the case is wrong.
     is_told: bool,
-    /// How many cases there were, and how many did not come out as they say.
-    pub(crate) played: usize,
-    pub(crate) failed: usize,
 }
 
 /// Gives bytes a name.
@@ -85,6 +83,7 @@ impl<'a> Cases<'a> {
                 line: 0,
                 why: "",
                 text: Vec::new(alloc),
+                counts: Counts::none(),
             },
             names: Vec::new(alloc),
             log: Vec::new(alloc),
@@ -93,8 +92,6 @@ impl<'a> Cases<'a> {
             history: Vec::new(alloc),
             run: None,
             is_told: false,
-            played: 0,
-            failed: 0,
         }
     }
 
@@ -107,7 +104,7 @@ impl<'a> Cases<'a> {
         self.tables.clear();
         self.history.clear();
         self.is_told = false;
-        self.played = self.played.saturating_add(1);
+        raise(&mut self.report.counts.cases);
     }
 
     /// Reads a line that stands before the first run of a case, or before the first case: `bytes NAME BYTES`.
@@ -195,7 +192,7 @@ impl<'a> Cases<'a> {
             // Where it can't be told, the number of these cases still is.
             let _ = eprintln!(rt; "{file}, line {line}: {why}{}", text_of(text));
             self.is_told = true;
-            self.failed = self.failed.saturating_add(1);
+            raise(&mut self.report.counts.failed);
         }
     }
 

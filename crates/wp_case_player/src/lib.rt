@@ -9,6 +9,7 @@
 
 mod bytes;
 mod case;
+mod counts;
 mod crash;
 mod device;
 mod holds;
@@ -20,6 +21,7 @@ mod stage;
 mod sweep;
 
 use crate::case::Cases;
+use crate::counts::Counts;
 use std::alloc::AllocGlobal;
 use std::env::{self, Env};
 use std::rt::Files;
@@ -27,13 +29,12 @@ use std::sync::Wait;
 use std::thread::Threads;
 use std::{fs, io};
 
-/// Plays the cases of a file's text, and tells of each that does not come out as it says. Answers how many there were, and how many did
-/// not.
+/// Plays the cases of a file's text, counts them, and tells of each that does not come out as it says.
 fn play_text<R: Threads + Wait + Sync + AllocGlobal + Eprint>(
     rt: &R,
     file: &str,
     text: &str,
-) -> (usize, usize) {
+) -> Counts {
     let mut cases = Cases::new(rt.alloc());
     let mut number = 0usize;
     for line in text.lines() {
@@ -43,29 +44,31 @@ fn play_text<R: Threads + Wait + Sync + AllocGlobal + Eprint>(
         }
     }
     cases.end_run(rt, file);
-    (cases.played, cases.failed)
+    cases.report.counts
 }
 
-/// Plays the cases of a file.
+/// Plays the cases of a file, and counts them.
 fn play_file<R: Threads + Wait + Sync + AllocGlobal + Files + Eprint>(
     rt: &R,
     file: &str,
-) -> io::Result<(usize, usize)> {
+) -> io::Result<Counts> {
     let text = fs::read_to_string(rt, file)?;
     Ok(play_text(rt, file, &text))
 }
 
 /// Plays the cases of all files that are named on the command line, tells of each on standard error that does not come out as it
-/// says, and prints how many there were. Answers whether all came out as they say.
+/// says, and prints how many there were, and how much was tried in their sweeps. Answers whether all came out as they say.
 pub fn play_files<R: Threads + Wait + Sync + AllocGlobal + Env + Files + Print + Eprint>(
     rt: &R,
 ) -> io::Result<bool> {
-    let (mut played, mut failed) = (0usize, 0usize);
+    let mut counts = Counts::none();
     for file in env::args(rt)?.skip(1) {
-        let (more, wrong) = play_file(rt, &file)?;
-        played = played.saturating_add(more);
-        failed = failed.saturating_add(wrong);
+        counts = counts.with(play_file(rt, &file)?);
     }
-    println!(rt; "cases {played} failed {failed}")?;
-    Ok(failed == 0)
+    println!(rt; "cases {} failed {}", counts.cases, counts.failed)?;
+    println!(rt;
+        "sweeps: calls {} pairs {} images {}",
+        counts.calls, counts.pairs, counts.images
+    )?;
+    Ok(counts.failed == 0)
 }

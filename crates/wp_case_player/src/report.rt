@@ -1,5 +1,6 @@
 //! What is told of a case.
 
+use crate::counts::Counts;
 use std::alloc::{AllocError, Global};
 use std::str;
 
@@ -13,6 +14,8 @@ pub(crate) struct Report {
     pub(crate) why: &'static str,
     /// What came out in its place.
     pub(crate) text: Vec<u8>,
+    /// What was played of this case and of those before it.
+    pub(crate) counts: Counts,
 }
 
 /// Bytes as text; what the program writes is never anything else.

@@ -1,6 +1,7 @@
 //! A run made again and again, each time with devices that go wrong at other calls. What is left, as it is and as a crash may leave
 //! it, opens to what was acknowledged, and works on.
 
+use crate::counts::raise;
 use crate::crash::push_images;
 use crate::play::{AMPLE_ROOM, Call, Faults, Left, Outcome, SOUND, Stored, play, show};
 use crate::report::Report;
@@ -63,6 +64,7 @@ fn alone(place: usize, faults: Faults) -> [Faults; 3] {
 /// on; or no device answers from there on. Where the log has calls left then, it fails too.
 fn push_alone(report: &mut Report, trials: &mut Vec<Trial>, swept: &Swept<'_>, whole: &Outcome) {
     for (call, moment) in swept.calls.iter().enumerate() {
+        raise(&mut report.counts.calls);
         let is_open = call >= swept.opening;
         let due = if is_open {
             swept.ends[1]
@@ -94,6 +96,7 @@ fn push_alone(report: &mut Report, trials: &mut Vec<Trial>, swept: &Swept<'_>, w
 fn push_pairs(report: &mut Report, trials: &mut Vec<Trial>, log: &Swept<'_>, other: &Swept<'_>) {
     for call in log.opening..log.calls.len() {
         for also in other.opening..other.calls.len() {
+            raise(&mut report.counts.pairs);
             let mut faults = alone(other.place, stops_at(also.saturating_add(1)));
             faults[0] = stops_at(call.saturating_add(1));
             let due = LOG_FAULT;
@@ -152,6 +155,7 @@ fn opens<R: Threads + Wait + Sync>(
     stages: &[Stage],
     stored: &Stored<'_>,
 ) {
+    raise(&mut report.counts.images);
     let call = Call {
         words: "wp run --bits 0",
         script: work,

@@ -5,7 +5,7 @@ ghost use Rattle.wp_model.specs.Snapshots.{is_old_commit, NoOldCommits};
 ghost use Rattle.wp_model.specs.PreparedSets.{NoneDelayed};
 ghost use Rattle.wp_machine_permits.specs.Each.{Each};
 
-use wp_machine::{PreparedSets, LiveSnapshot, Snapshots};
+use wp_machine::{LiveSnapshot, PreparedSets, Snapshots};
 use wp_model::Seq;
 
 /// Each of the numbers is from this one on.
