@@ -1,17 +1,22 @@
 -- Lists with one cut and the same values at its base tell alike at each number from there on.
-use Rattle.std.proofs.Common.{◌≡◌, ℕ, ◌+◌, ◌-◌, ◌≤◌, Bool, true, false, ◌||◌, not, eqb, List, ◌++◌, length, take, drop, refl, sym, ap, ◌∙◌, inl, inr, length-take-le, take-append-drop, arith}
-use Rattle.std.specs.List.{list_any}
+use Rattle.std.proofs.Common.{◌≡◌, ℕ, zero, suc, ◌+◌, ◌-◌, ◌<◌, ◌≤◌, Bool, true, false, ◌||◌, not, eqb, Option, Some, None, List, ◌++◌, length, take, drop, refl, sym, ap, ◌∙◌, inl, inr, length-take-le, take-append-drop, arith}
+use Rattle.std.specs.List.{list_any, filter, range_with_len, last_or}
+use Rattle.std.specs.Option.{option_map_or}
 use Rattle.std.proofs.lemmas.Bool.{cases_lt, and_parts, and_from}
 use Rattle.std.proofs.lemmas.List.Folds.{list_any-append}
 use Rattle.std.proofs.lemmas.List.{take-take, drop-take, drop_all}
+use Rattle.wp_model.specs.declared.change.Change.{Change}
 use Rattle.wp_model.specs.declared.entry.Entry.{Entry}
-use Rattle.wp_model.specs.History.{entry_at, is_prepare, decides, is_undecided, value_at, newest}
+use Rattle.wp_model.specs.declared.entry.Entry.TheVariants.{Write, Prepare, Commit, Undo, Close}
+use Rattle.wp_model.specs.Changed.{changes_key, conflict}
+use Rattle.wp_model.specs.History.{entry_at, is_prepare, prepared_batch, decides, is_undecided, is_changed, changes_of, value_at, newest}
 use Rattle.wp_model.specs.Flushed.{versions_after, later_versions}
 use Rattle.wp_model.specs.Legal.{NamesUndecided}
 use Rattle.wp_model.proofs.Entries.{entry_at_old, undecided_within}
 use Rattle.wp_history_laws.proofs.Growth.{AreNaming}
 use Rattle.wp_history_laws.proofs.Following.{follow_take}
-use Rattle.wp_history_laws.proofs.Undecided.{is_undecided_by_list}
+use Rattle.wp_history_laws.proofs.Unchanged.{changes_key_old}
+use Rattle.wp_history_laws.proofs.Undecided.{is_undecided_by_list, filter_range}
 use Rattle.wp_cuts.specs.Cut.{Cut, IsCut}
 use Rattle.wp_cuts.specs.Agree.{HaveSameValues, AgreeFrom, TellAlike}
 use Rattle.wp_cuts.specs.LegalCut.{cut_front}
@@ -83,5 +88,33 @@ module _ (one other : List Entry) (c : Cut) (naming : AreNaming one) (also : Are
         ∙ sym (drop_all m (take n other) (omega (arith, le, length-take-le n other (omega (arith, within, whole.long)))))
   ])
 
+  -- each entry behind the base changes the same keys in both
+  changes_same : (i : ℕ) (entry : Entry) → base ≤ i → i ≤ length one → NamesUndecided (take i one) entry → changes_of one entry ≡ changes_of other entry
+  changes_same i (Write batch) above within names = refl
+  changes_same i (Prepare name batch) above within names = refl
+  changes_same i (Commit p) above within names = ap prepared_batch (own p i above within names)
+  changes_same i (Undo p batch) above within names = refl
+  changes_same i (Close p) above within names = refl
+
+  key_same : (key : List ℕ) (k : ℕ) → base < k → k ≤ length one → changes_key one key k ≡ changes_key other key k
+  key_same key zero low high = absurd (omega (arith, low))
+  key_same key (suc i) low high = by (entry_at one (suc i)) refl ∙ ap (λ (o : Option Entry). option_map_or (λ entry. is_changed (changes_of other entry) key) o false) (whole.entries (suc i) low)
+    where
+      by : (o : Option Entry) → entry_at one (suc i) ≡ o → option_map_or (λ entry. is_changed (changes_of one entry) key) o false ≡ option_map_or (λ entry. is_changed (changes_of other entry) key) o false
+      by None at = refl
+      by (Some entry) at = ap (λ (changes : List Change). is_changed changes key) (changes_same i entry (omega (arith, low)) (omega (arith, high)) (naming i entry at))
+
+  key_in_front : (history : List Entry) (key : List ℕ) (n k : ℕ) → AreNaming history → k ≤ length (take n history) → changes_key (take n history) key k ≡ changes_key history key k
+  key_in_front history key n k names le = sym (changes_key_old (take n history) (drop n history) key k (follow_take NamesUndecided n history names) le) ∙ ap (λ (h : List Entry). changes_key h key k) (take-append-drop n history)
+
+  conflicts : (key : List ℕ) (m n : ℕ) → base ≤ m → n ≤ length one → conflict (take n one) key m ≡ conflict (take n other) key m
+  conflicts key m n above within =
+      let long = length-take-le n one within in
+      let too = length-take-le n other (omega (arith, within, whole.long)) in
+      ap (last_or None)
+      (filter_range (changes_key (take n one) key) (changes_key (take n other) key) (suc m) (length (take n one) - m)
+      (λ k low high. key_in_front one key n k naming (omega (arith, low, high)) ∙ key_same key k (omega (arith, low, above)) (omega (arith, low, high, long, within)) ∙ sym (key_in_front other key n k also (omega (arith, low, high, long, too))))
+      ∙ ap (λ (l : ℕ). filter (changes_key (take n other) key) (range_with_len (suc m) (l - m))) (long ∙ sym too))
+
   pub tell_alike : TellAlike one other base
-  tell_alike = record { whole = whole; fronts = fronts; undecided = undecided_same; prepared = prepared; own = own; behind = behind; later = later }
+  tell_alike = record { whole = whole; fronts = fronts; undecided = undecided_same; prepared = prepared; own = own; behind = behind; later = later; conflicts = conflicts }

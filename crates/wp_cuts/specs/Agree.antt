@@ -1,6 +1,7 @@
 -- What two lists have in common from a base on.
 use Rattle.std.specs.Prelude.{◌≡◌, ℕ, ◌<◌, ◌≤◌, true, List, length, take, drop, Option, Some}
 use Rattle.wp_model.specs.declared.entry.Entry.{Entry}
+use Rattle.wp_model.specs.Changed.{conflict}
 use Rattle.wp_model.specs.History.{entry_at, is_undecided, undecided, named, holder_of, value_at}
 use Rattle.wp_model.specs.Decision.{entry_version, decision_of, is_committed}
 use Rattle.wp_model.specs.Flushed.{later_versions}
@@ -27,8 +28,8 @@ pub record AgreeFrom (one other : List Entry) (base : ℕ) : Type 0 where
   pub cuts : (m : ℕ) → base ≤ m → m ≤ length one → cut_at one m ≡ cut_at other m
 
 -- What a reply may be judged by is the same in both, at each number n from the base on: all that lists agree in also when cut short
--- there, which prepares were undecided then, their entries, then and in the whole list, the entries behind, and the versions of
--- those above one number and up to another.
+-- there, which prepares were undecided then, their entries, then and in the whole list, the entries behind, the versions of
+-- those above one number and up to another, and the last of these that changed a key.
 pub record TellAlike (one other : List Entry) (base : ℕ) : Type 0 where
   pub whole : AgreeFrom one other base
   pub fronts : (n : ℕ) → base ≤ n → n ≤ length one → AgreeFrom (take n one) (take n other) base
@@ -37,3 +38,4 @@ pub record TellAlike (one other : List Entry) (base : ℕ) : Type 0 where
   pub own : (p n : ℕ) → base ≤ n → n ≤ length one → is_undecided (take n one) p ≡ true → entry_at one p ≡ entry_at other p
   pub behind : (n : ℕ) → base ≤ n → n ≤ length one → drop n one ≡ drop n other
   pub later : (m n : ℕ) → base ≤ m → n ≤ length one → later_versions (take n one) m ≡ later_versions (take n other) m
+  pub conflicts : (key : List ℕ) (m n : ℕ) → base ≤ m → n ≤ length one → conflict (take n one) key m ≡ conflict (take n other) key m

@@ -19,7 +19,7 @@ use Rattle.wp_history.specs.Outline.{collides, collision_behind, collision_of}
 
 -- ---- no collision
 
-clear_by : (b : Bool) (n : ℕ) (rest : Option ℕ) → cond b (Some n) rest ≡ None → (b ≡ false) × (rest ≡ None)
+pub clear_by : (b : Bool) (n : ℕ) (rest : Option ℕ) → cond b (Some n) rest ≡ None → (b ≡ false) × (rest ≡ None)
 clear_by true n rest none = absurd cc
 clear_by false n rest none = (refl, none)
 
@@ -40,7 +40,7 @@ at_front (y ∷ ys) zero (suc j) x lt at = at
 at_front (y ∷ ys) (suc i) (suc j) x lt at = at_front ys i j x (omega (arith, lt)) at
 
 -- so of two places the later does not collide with the earlier
-none_collides : (xs : List Carried) (i j : ℕ) (x y : Carried) → collision_of xs ≡ None → i < j → slice_get xs i ≡ Some x → slice_get xs j ≡ Some y → collides y x ≡ true → ⊥
+pub none_collides : (xs : List Carried) (i j : ℕ) (x y : Carried) → collision_of xs ≡ None → i < j → slice_get xs i ≡ Some x → slice_get xs j ≡ Some y → collides y x ≡ true → ⊥
 none_collides xs i j x y none lt at there collide =
     let never = clear_at [] xs j y none there in
     let any : list_any (collides y) (take j xs) ≡ true = any_passes_from_place (collides y) (take j xs) i x (at_front xs i j x lt at) collide in
@@ -68,17 +68,17 @@ ascends_at (y ∷ ys) (suc i) x all at = ascends_at ys i x all.1 at
 
 -- ---- a key of both
 
-shares : (changes : List Change) (key : List ℕ) (test : List ℕ → Bool) → is_changed changes key ≡ true → test key ≡ true → list_any (λ change. test (key_of change)) changes ≡ true
+pub shares : (changes : List Change) (key : List ℕ) (test : List ℕ → Bool) → is_changed changes key ≡ true → test key ≡ true → list_any (λ change. test (key_of change)) changes ≡ true
 shares [] key test changed passes = absurd cc
 shares (change ∷ changes) key test changed passes = elim (cases_Bool (bytes_eq (key_of change) key)) [
   | inl here ↦ or_left (test (key_of change)) (list_any (λ c. test (key_of c)) changes) (ap test ((bytes_eq-Decides (key_of change) key).0 here) ∙ passes)
   | inr other ↦ or_right (test (key_of change)) (list_any (λ c. test (key_of c)) changes) (shares changes key test (rw other at changed) passes)
 ]
 
-by_name : (x y : Carried) → y.name ≡ x.name → collides y x ≡ true
+pub by_name : (x y : Carried) → y.name ≡ x.name → collides y x ≡ true
 by_name x y same = or_left (bytes_eq y.name x.name) (list_any (λ change. is_changed x.batch (key_of change)) y.batch) ((bytes_eq-Decides y.name x.name).1 same)
 
-by_key : (x y : Carried) (key : List ℕ) → is_changed y.batch key ≡ true → is_changed x.batch key ≡ true → collides y x ≡ true
+pub by_key : (x y : Carried) (key : List ℕ) → is_changed y.batch key ≡ true → is_changed x.batch key ≡ true → collides y x ≡ true
 by_key x y key changed its = or_right (bytes_eq y.name x.name) (list_any (λ change. is_changed x.batch (key_of change)) y.batch) (shares y.batch key (is_changed x.batch) changed its)
 
 -- ---- together

@@ -1,6 +1,9 @@
 pub mod Apart
+pub mod Conflict
 pub mod Full
 pub mod Halves
+pub mod Holding
+pub mod Taking
 pub mod Judged
 pub mod Kept
 pub mod Noted

@@ -1,6 +1,7 @@
 -- A history in memory, from a base on: how its contracts see it, and how it is kept.
 use Rattle.std.specs.Prelude.{◌≡◌, ℕ, ◌≤◌, List, length, take, Option, if◌then◌else◌, nat_lt, None}
 use Rattle.std.specs.BTreeMap.{BTreeMap, IsOrdered, get}
+use Rattle.std.specs.Str.{bytes_eq}
 use Rattle.wp_model.specs.declared.carried.Carried.{Carried}
 use Rattle.wp_model.specs.declared.entry.Entry.{Entry}
 use Rattle.wp_model.specs.declared.version.Version.{Version}
@@ -37,9 +38,13 @@ pub record IsOutline (c : Cut) (versions : List Version) (numbers : List ℕ) (r
 -- ---- as a history is kept
 
 -- the map has just these values
-pub record IsStore (values : List ℕ → Option (List ℕ)) (store : BTreeMap (List ℕ) (List ℕ)) : Type 0 where
+pub record IsStore {V : Type 0} (values : List ℕ → Option V) (store : BTreeMap (List ℕ) V) : Type 0 where
   pub ordered : IsOrdered key_cmp store
   pub each : (key : List ℕ) → get key_cmp store key ≡ values key
+
+-- the value is left under the key, or nothing
+abbrev pub Leaves : {V : Type 0} → List ℕ → Option V → BTreeMap (List ℕ) V → BTreeMap (List ℕ) V → Type 0
+Leaves {V} key value old new = (values : List ℕ → Option V) → IsStore values old → IsStore (λ other. if bytes_eq key other then value else values other) new
 
 -- what the map has are the values that the entries up to the base leave
 abbrev pub HasBaseValues : RoomyHistory → BTreeMap (List ℕ) (List ℕ) → Type 0

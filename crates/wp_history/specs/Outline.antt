@@ -8,7 +8,7 @@ use Rattle.wp_model.specs.declared.entry.Entry.TheVariants.{Commit, Close}
 use Rattle.wp_model.specs.declared.version.Version.{Version}
 use Rattle.wp_model.specs.Batch.{key_of}
 use Rattle.wp_model.specs.History.{entry_at, is_changed}
-use Rattle.wp_model.specs.Legal.{IsLegal, IsOrderlyNext, RestoresPrior}
+use Rattle.wp_model.specs.Legal.{IsLegal, IsOrderlyNext, NamesUndecided, RestoresPrior, UndoIsClosed}
 use Rattle.wp_history_laws.specs.Growth.{AreAscending, undecided_after}
 use Rattle.wp_cuts.specs.Cut.{Cut, cut_at, full_of}
 use Rattle.wp_history.specs.History.{RoomyHistory}
@@ -32,6 +32,11 @@ collision_of carried = collision_behind [] carried
 -- each entry behind the base may follow those before it, but for what an undo restores
 abbrev pub AreOrderly : RoomyHistory → Type 0
 AreOrderly h = (n : ℕ) (entry : Entry) → h.base ≤ n → slice_get h.entries n ≡ Some entry → IsOrderlyNext (take n h.entries) entry
+
+-- what the entry decides or undoes is undecided, and each undo is closed at once
+pub record MayDecide (before : List Entry) (entry : Entry) : Type 0 where
+  pub names_undecided : NamesUndecided before entry
+  pub undo_is_closed : UndoIsClosed before entry
 
 -- what the entry decides is among these
 abbrev pub DecidesAmong : List ℕ → Entry → Type 0

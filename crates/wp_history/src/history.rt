@@ -1,6 +1,7 @@
 ghost use Rattle.std.specs.Prelude.{◌≡◌, ◌↔◌, true, ◌+◌, ◌-◌, ◌<◌, ◌≤◌, [], ◌∷◌, ◌++◌, length, take, drop, IfOk, IfErr, OnOk};
 ghost use Rattle.std.specs.List.{AllByRecursion};
 ghost use Rattle.std.specs.Option.{option_copied, option_map};
+ghost use Rattle.wp_model.specs.Changed.{conflict};
 ghost use Rattle.wp_model.specs.History.{entry_at, is_undecided, undecided, batch_at, name_at, named, holder_of, newest, value_at};
 ghost use Rattle.wp_model.specs.Versions.{AreInOrder};
 ghost use Rattle.wp_model.specs.Legal.{IsLegal, IsLegalNext, change_that_leaves, log_end, prior, undone_last};
@@ -206,6 +207,14 @@ impl History {
         ensures { option_copied result ≡ value_at self.now.entries key.now n }
     {
         self.outline.value_at(&self.store, key, n)
+    }
+
+    /// The greatest number above n of an entry that changes the key, if there is one.
+    pub fn changed_after(&self, key: &Key, n: Seq) -> Option<Seq>
+        requires { self.now.base ≤ n }
+        ensures { result ≡ conflict self.now.entries key.now n }
+    {
+        self.outline.changed_after(key, n)
     }
 
     /// The change that leaves under a key what the store has there.

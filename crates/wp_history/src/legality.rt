@@ -1,10 +1,11 @@
 //! Which entry may follow those of an outline, and whether an undo among them restores what it has to.
 ghost use Rattle.std.specs.Prelude.{◌≡◌, ◌↔◌, ◌≤◌, true, length, take, IfNone, IfSome};
+ghost use Rattle.wp_model.specs.Batch.{are_ascending};
 ghost use Rattle.wp_model.specs.History.{is_undecided, batch_at, value_at};
-ghost use Rattle.wp_model.specs.Legal.{AreFree, IsOrderlyNext, RestoresPrior, UndoIsClosed, undone_last, change_that_leaves, prior};
+ghost use Rattle.wp_model.specs.Legal.{AreFree, IsOrderlyNext, KeysAreFree, RestoresPrior, UndoIsClosed, changes_in, undone_last, change_that_leaves, prior};
 ghost use Rattle.wp_history_laws.specs.Growth.{undone_by};
 ghost use Rattle.wp_history.specs.History.{HasBaseValues};
-ghost use Rattle.wp_history.specs.Outline.{RestoreUpTo, IsFirstWrong};
+ghost use Rattle.wp_history.specs.Outline.{MayDecide, RestoreUpTo, IsFirstWrong};
 
 use crate::outline::Outline;
 use std::collections::BTreeMap;
@@ -25,16 +26,36 @@ impl Outline {
     pub fn is_orderly_next(&self, entry: &Entry) -> bool
         ensures { (result ≡ true) ↔ IsOrderlyNext self.now.entries entry.now }
     {
-        let changes = entry.changes();
+        self.may_decide(entry) && self.lets(entry)
+    }
+
+    /// Whether what the entry decides or undoes is undecided, and each undo is closed at once.
+    pub(crate) fn may_decide(&self, entry: &Entry) -> bool
+        ensures may { (result ≡ true) ↔ MayDecide self.now.entries entry.now }
+        ensures ascending { are_ascending (changes_in entry.now) ≡ true }
+    {
+        let _ = entry.changes();
         if !self.is_closed_by(entry) {
             return false;
         }
         match entry {
-            Entry::Write(_) => self.are_free(changes),
-            Entry::Prepare(name, _) => self.are_free(changes) && self.named(name).is_none(),
+            Entry::Write(_) | Entry::Prepare(_, _) => true,
             Entry::Commit(p) => self.is_undecided(*p),
             Entry::Undo(p, _) => self.is_undecided(*p),
             Entry::Close(p) => self.is_undecided(*p),
+        }
+    }
+
+    /// Whether what the entry writes or prepares has no key of an undecided prepare, and no name.
+    fn lets(&self, entry: &Entry) -> bool
+        ensures { (result ≡ true) ↔ KeysAreFree self.now.entries entry.now }
+    {
+        match entry {
+            Entry::Write(batch) => self.are_free(batch.changes()),
+            Entry::Prepare(name, batch) => {
+                self.are_free(batch.changes()) && self.named(name).is_none()
+            }
+            Entry::Commit(_) | Entry::Undo(_, _) | Entry::Close(_) => true,
         }
     }
 

@@ -7,17 +7,18 @@
 //!
 //! An `Outline` is what a log tells by itself: which entry may follow hangs on the undecided prepares alone, of which it knows
 //! the numbers, so that a put asks only these which keys are held. Its full list has no versions below the base yet. A
-//! `History` has the store's values at the base too, and stays legal: what an undo restores was judged.
+//! `History` has the store's values at the base too, and stays legal: what an undo restores was judged. `Holders` are for an opening, which
+//! asks of each entry that was logged: they tell by a name or a key which prepare has it.
 #![tactic(auto)]
 
-mod collision;
 mod history;
+mod holders;
 pub mod laws;
 mod legality;
 mod outline;
 mod prepares;
 mod values;
 
-pub use collision::first_collision;
 pub use history::History;
+pub use holders::{Holders, HoldersError};
 pub use outline::Outline;

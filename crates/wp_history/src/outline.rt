@@ -171,7 +171,7 @@ impl Outline {
     }
 
     /// The outline of a base without entries behind it. None of the prepares that were undecided there has a name or a key of another
-    /// one (`first_collision`). It is refused only for want of memory.
+    /// one (`Holders::of`). It is refused only for want of memory.
     pub fn from_base(alloc: Global, base: Seq, carried: Vec<Carried>) -> Result<Outline, AllocError>
         requires few { base < log_end }
         requires numbered { AreNumbered (cut_of base carried.items []) }
@@ -180,6 +180,7 @@ impl Outline {
         ensures base { IfOk result (λ outline. outline.base ≡ base) }
         ensures entries { IfOk result (λ outline. outline.entries ≡ prepares_of (cut_of base carried.items [])) }
         ensures cut { IfOk result (λ outline. cut_in outline ≡ cut_of base carried.items []) }
+        ensures carried { IfOk result (λ outline. carried_of outline.entries ≡ carried.items) }
     {
         let undecided = numbers_of(alloc, &carried)?;
         let later = Vec::new(alloc);

@@ -1,7 +1,8 @@
-//! What the store has under a key.
+//! What the store has under a key, and which entry changed it last.
 ghost use Rattle.std.specs.Prelude.{◌≡◌, ◌≤◌, length};
 ghost use Rattle.std.specs.Option.{option_map, option_copied};
 ghost use Rattle.wp_model.specs.Batch.{change_to};
+ghost use Rattle.wp_model.specs.Changed.{conflict};
 ghost use Rattle.wp_model.specs.History.{value_at, changes_of};
 ghost use Rattle.wp_history.specs.History.{HasBaseValues};
 
@@ -42,5 +43,21 @@ impl Outline {
             }
         }
         store.get(key)
+    }
+
+    /// The greatest number above n of an entry that changes the key, if there is one.
+    pub(crate) fn changed_after(&self, key: &Key, n: Seq) -> Option<Seq>
+        requires { self.now.base ≤ n }
+        ensures { result ≡ conflict self.now.entries key.now n }
+    {
+        let later = self.later();
+        let mut i = later.len();
+        while self.base() + i as Seq > n {
+            i -= 1;
+            if let Some(_) = self.change_by(&later[i], key) {
+                return Some(self.base() + i as Seq + 1);
+            }
+        }
+        None
     }
 }

@@ -50,7 +50,7 @@ pub undecided_version : (history : List Entry) (key : List ℕ) (p : ℕ) → is
 undecided_version history key p undecided = version_of_prepare (entry_at history p) key (undecided_prepared history p undecided)
 
 -- what held a key with an entry more held it before, and is not decided by the entry
-held_before : (history : List Entry) (entry : Entry) (key : List ℕ) (p : ℕ) → p ≤ length history → Holds (history ++ entry ∷ []) key p → Holds history key p × (decides p entry ≡ false)
+pub held_before : (history : List Entry) (entry : Entry) (key : List ℕ) (p : ℕ) → p ≤ length history → Holds (history ++ entry ∷ []) key p → Holds history key p × (decides p entry ≡ false)
 held_before history entry key p le holds =
     let both = and_parts (is_undecided history p) (not (decides p entry)) (sym (undecided_old history entry p le) ∙ holds.undecided) in
     (record { undecided = both.0; changed = ap (λ (batch : List Change). is_changed batch key) (sym (batch_at_old history (entry ∷ []) p le)) ∙ holds.changed }, not-true (decides p entry) both.1)
@@ -98,7 +98,7 @@ held_once history key p q none ended holds other lt =
     let missing : is_changed (batch_at history q) key ≡ false = ap is_some (sym version ∙ nothing) in
     absurd cc
 
-same_holder : (history : List Entry) (key : List ℕ) (p q : ℕ) → NoneAbove history → undone_last history ≡ None → Holds history key p → Holds history key q → q ≡ p
+pub same_holder : (history : List Entry) (key : List ℕ) (p q : ℕ) → NoneAbove history → undone_last history ≡ None → Holds history key p → Holds history key q → q ≡ p
 same_holder history key p q none ended holds other =
     elim (cases_order q p) [
       | inl same ↦ same

@@ -12,3 +12,4 @@ pub mod Above
 pub mod NewestVersion
 pub mod Opened
 pub mod Listed
+pub mod Unchanged

@@ -20,7 +20,7 @@ range_more : (a n : ℕ) → range_with_len a (n + 1) ≡ range_with_len a n ++ 
 range_more a zero = grind arith
 range_more a (suc n) = rw add-one (ap (λ (xs : List ℕ). a ∷ xs) (let e : a + 1 + n ≡ a + suc n = omega arith in sym (ap (λ (m : ℕ). range_with_len (a + 1) m) (add-one n)) ∙ range_more (a + 1) n ∙ ap (λ (m : ℕ). range_with_len (a + 1) n ++ m ∷ []) e))
 
-filter_range : (p q : ℕ → Bool) (a n : ℕ) → ((k : ℕ) → a ≤ k → k < a + n → p k ≡ q k) → filter p (range_with_len a n) ≡ filter q (range_with_len a n)
+pub filter_range : (p q : ℕ → Bool) (a n : ℕ) → ((k : ℕ) → a ≤ k → k < a + n → p k ≡ q k) → filter p (range_with_len a n) ≡ filter q (range_with_len a n)
 filter_range p q a zero same = refl
 filter_range p q a (suc n) same =
     let rest : filter p (range_with_len (a + 1) n) ≡ filter q (range_with_len (a + 1) n) = filter_range p q (a + 1) n (λ k le lt. same k (omega arith) (omega arith)) in

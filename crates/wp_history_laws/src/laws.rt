@@ -1,12 +1,13 @@
 //! How legal histories grow, and what the store has under a key, over plain lists.
-ghost use Rattle.std.specs.Prelude.{◌≡◌, ◌⊎◌, ℕ, ◌+◌, ◌<◌, ◌≤◌, true, None, List, [], ◌∷◌, ◌++◌, length};
+ghost use Rattle.std.specs.Prelude.{◌≡◌, ◌⊎◌, ℕ, ◌+◌, ◌<◌, ◌-◌, ◌≤◌, true, None, List, [], ◌∷◌, ◌++◌, length, take};
 ghost use Rattle.wp_model.specs.declared.change.Change.{Change};
 ghost use Rattle.wp_model.specs.declared.entry.Entry.{Entry};
 ghost use Rattle.wp_model.specs.declared.entry.Entry.TheVariants.{Prepare, Undo, Close};
 ghost use Rattle.wp_model.specs.declared.version.Version.{Version};
+ghost use Rattle.wp_model.specs.Changed.{IsUnchanged};
 ghost use Rattle.wp_model.specs.Covered.{IsCovered};
 ghost use Rattle.wp_model.specs.Decision.{IsNewestCommitted, HasNoneCommitted};
-ghost use Rattle.wp_model.specs.History.{undecided, is_undecided, name_at, batch_at, value_at};
+ghost use Rattle.wp_model.specs.History.{entry_at, is_prepare, undecided, is_undecided, name_at, batch_at, is_changed, value_at};
 ghost use Rattle.wp_model.specs.Legal.{IsLegal, IsLegalNext, undone_last, log_end};
 ghost use Rattle.wp_history_laws.specs.Growth.{undecided_after};
 
@@ -68,4 +69,15 @@ pub fn newest_committed_is_the_value()
 pub fn zero_is_covered()
     ensures { (versions : List Version) (history : List Entry) (numbers : List ℕ) (from : ℕ)
         → IsCovered versions history numbers from → IsCovered versions history (0 ∷ numbers) from }
+{}
+
+/// A key that no entry above a number changes.
+pub fn unchanged_keys()
+    ensures values { (history : List Entry) (key : List ℕ) (n m : ℕ) → IsLegal history → IsUnchanged history key n
+        → n ≤ m → m ≤ length history → value_at history key m ≡ value_at history key n }
+    ensures later { (history : List Entry) (key : List ℕ) (n m : ℕ) → n ≤ m → IsUnchanged history key n → IsUnchanged history key m }
+    ensures prepared { (history : List Entry) (key : List ℕ) (p : ℕ) → IsLegal history → is_undecided history p ≡ true
+        → is_changed (batch_at history p) key ≡ true → IsUnchanged history key p }
+    ensures joined { (history : List Entry) (key : List ℕ) (n p : ℕ) → IsLegal history → is_prepare (entry_at history p) ≡ true
+        → IsUnchanged (take (p - 1) history) key n → IsUnchanged history key p → IsUnchanged history key n }
 {}

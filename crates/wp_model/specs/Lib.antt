@@ -3,6 +3,7 @@ pub mod WordBytes
 pub mod Batch
 pub mod Place
 pub mod History
+pub mod Changed
 pub mod Legal
 pub mod Record
 pub mod Decision

@@ -1,5 +1,7 @@
--- The tables of names, keys and labels: the live names, the held keys and the board.
-use Rattle.std.specs.Prelude.{ℕ, List, Option, refl}
+-- The state of names, keys and labels: the live names, the held keys and the board.
+use Rattle.std.specs.Prelude.{ℕ, Bool, List, Option, refl}
+use Rattle.std.specs.List.{list_any}
+use Rattle.std.specs.Str.{bytes_eq}
 use Rattle.std.specs.FinMap as map
 use Rattle.std.specs.Coded.{Coded, code_by, coded×, coded_ℕ, coded_list, coded_option}
 use Rattle.wp_model.specs.Batch.{key_cmp}
@@ -35,3 +37,7 @@ lock_state_code =
 -- no name is live, no key is held and nothing was told
 abbrev pub nothing_locked : LockState
 nothing_locked = record { names = map.empty; keys = map.empty; labels = map.empty }
+
+-- the key is one of these
+abbrev pub is_among_keys : List (List ℕ) → List ℕ → Bool
+is_among_keys keys key = list_any (λ k. bytes_eq k key) keys

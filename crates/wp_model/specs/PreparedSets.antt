@@ -1,4 +1,4 @@
--- The tables of prepared transactions: the prepared heap, the delayed set and the delayed commits.
+-- The sets of prepared transactions: the prepared heap, the delayed set and the delayed commits.
 use Rattle.std.specs.Prelude.{◌≡◌, ℕ, ◌≤◌, Bool, false, ◌||◌, None, IsTrue, if◌then◌else◌, refl}
 use Rattle.std.specs.Ordering.{nat_cmp}
 use Rattle.std.specs.Coded.{Coded, code_by, coded×, coded_ℕ}

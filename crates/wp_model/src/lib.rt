@@ -2,7 +2,7 @@
 //! history that all clients share, and the versions of keys that they leave.
 //!
 //! The definitions that several layers cite are here: what a history says of the store (`History`, `Legal`,
-//! `Decision`), which versions show a reader what it holds (`Versions`, `Covered`), and what the tables of prepared
+//! `Decision`), which versions show a reader what it holds (`Versions`, `Covered`), and what the sets of prepared
 //! transactions, snapshots and locks are to those who read their contracts.
 #![tactic(auto)]
 

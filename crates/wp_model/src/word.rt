@@ -151,7 +151,8 @@ impl<const MOST: usize> Ord for Word<MOST> {
     ghost matches_eq = { Prim.search (comparing, rules) };
 
     fn cmp(&self, other: &Word<MOST>) -> Ordering {
-        self.bytes().cmp(&other.bytes())
+        // One byte after the other: for a few bytes that is shorter than the order of slices.
+        self.bytes().iter().cmp(other.bytes().iter())
     }
 }
 

@@ -4,5 +4,6 @@ pub mod AllVersions
 pub mod OwnVersions
 pub mod Reading
 pub mod Shown
+pub mod Under
 pub mod OverTables
 pub mod Within

@@ -1,12 +1,10 @@
 -- The history over tables: which versions are below what is carried, what the store had at the base, and what is wrong.
 use Rattle.std.proofs.Common.{◌≡◌, ◌⊎◌, ℕ, ◌<◌, ◌==◌, Bool, true, false, true≢false, ◌&&◌, ◌||◌, not, cond, List, [], ◌∷◌, ◌++◌, length, map, Option, Some, refl, sym, ap, ◌∙◌, subst, inl, inr, append-nil, append_assoc, arith}
 use Rattle.std.specs.Prelude.{nat_lt}
-use Rattle.std.specs.BTreeMap.{BTreeMap, IsOrdered, is_at, get}
+use Rattle.std.specs.BTreeMap.{BTreeMap, IsOrdered}
 use Rattle.std.specs.List.{AllByRecursion, find, list_all}
-use Rattle.std.specs.Map.{lookup}
 use Rattle.std.specs.Str.{bytes_eq}
 use Rattle.std.proofs.lemmas.Bool.{and_parts, and_from, eqb-true, eq-eqb, ne_eqb, lt-ltb, ltb-true}
-use Rattle.std.proofs.lemmas.Map.Text.{is_eq-slice_cmp}
 use Rattle.std.proofs.lemmas.Option.{same_Some}
 use Rattle.wp_model.specs.declared.carried.Carried.{Carried}
 use Rattle.wp_model.specs.declared.entry.Entry.{Entry}
@@ -20,15 +18,16 @@ use Rattle.wp_cuts.specs.Cut as cut
 use Rattle.wp_cuts.specs.LegalCut.{AreBelow, AreNumbered}
 use Rattle.wp_cuts.proofs.FullList.{front, full_is, full_is_cut, full_long, full_value, fixed_parts}
 use Rattle.wp_cuts.proofs.Members.{IsIn, at_in, in_at, version}
-use Rattle.wp_history.specs.History.{RoomyHistory, IsStore, HasBaseValues}
+use Rattle.wp_history.specs.History.{RoomyHistory, IsStore, HasBaseValues, Leaves}
 use Rattle.wp_history.specs.Outline.{IsFirstWrong, RestoreUpTo, cut_in, full_with}
+use Rattle.wp_history.proofs.Holding.{as_values, nothing_under}
 use Rattle.wp_cover.specs.Sources.{is_fixed}
 use Rattle.wp_refused.specs.declared.bad.Bad.{Bad}
 use Rattle.wp_refused.specs.declared.bad.Bad.TheVariants as bad
 use Rattle.wp_refused.specs.declared.error.OpenError.TheVariants as open_error
 use Rattle.wp_refused.specs.Damage.{UndosRestore, IsWrongUndo, end_of, standing}
 use Rattle.wp_contents.specs.Opens.{all_in, history_over}
-use Rattle.wp_open.specs.Standing.{IsOverCause, Leaves, fits, is_under}
+use Rattle.wp_open.specs.Standing.{IsOverCause, fits, is_under}
 use Rattle.wp_refused.specs.Tables.{IsHistoryCause}
 use Rattle.wp_open.proofs.Base.{same_fixed}
 
@@ -128,21 +127,6 @@ module _ (h : RoomyHistory) (its versions : List Version) (order : AreInOrder ve
 
 -- ---- what the store had at the base
 
-pub leaves_by : (key : List ℕ) (value : Option (List ℕ)) (old new : BTreeMap (List ℕ) (List ℕ)) → ((q : List ℕ) → get key_cmp new q ≡ cond (is_at (key_cmp key) q) value (get key_cmp old q)) → IsOrdered key_cmp new → Leaves key value old new
-leaves_by key value old new updated ordered values had = record {
-  ordered = ordered;
-  each = λ other.
-      updated other
-      ∙ ap (λ (b : Bool). cond b value (get key_cmp old other)) (is_eq-slice_cmp key other)
-      ∙ ap (cond (bytes_eq key other) value) (had.each other);
-}
-
-as_values : (f g : List ℕ → Option (List ℕ)) (store : BTreeMap (List ℕ) (List ℕ)) → ((key : List ℕ) → f key ≡ g key) → IsStore f store → IsStore g store
-as_values f g store same had = record { ordered = had.ordered; each = λ key. had.each key ∙ same key }
-
-pub nothing_left : (c : Cut) (store : BTreeMap (List ℕ) (List ℕ)) → store.entries ≡ [] → IsOrdered key_cmp store → IsStore (base_value c []) store
-nothing_left c store empty ordered = record { ordered = ordered; each = λ key. ap (λ (es : List (List ℕ × List ℕ)). lookup (is_at (key_cmp key)) es) empty }
-
 module _ (c : Cut) (v : Version) (seen : List Version) (store new : BTreeMap (List ℕ) (List ℕ)) where
   with_fixed : (b : Bool) (o : Option Version) → cond b v.value (value_in o) ≡ value_in (cond (b && true) (Some v) o)
   with_fixed true o = refl
@@ -170,7 +154,7 @@ pub record AreTaken (c : Cut) (all left : List Version) (store : BTreeMap (List 
   pub has : IsStore (base_value c seen) store
 
 pub none_taken : (c : Cut) (all left : List Version) (store : BTreeMap (List ℕ) (List ℕ)) → left ≡ all → store.entries ≡ [] → IsOrdered key_cmp store → AreTaken c all left store
-none_taken c all left store is empty ordered = record { seen = []; parts = append-nil left ∙ is; has = nothing_left c store empty ordered }
+none_taken c all left store is empty ordered = record { seen = []; parts = append-nil left ∙ is; has = nothing_under store empty ordered }
 
 one_more : (all left rest seen : List Version) (v : Version) → left ≡ rest ++ v ∷ [] → left ++ seen ≡ all → rest ++ v ∷ seen ≡ all
 one_more all left rest seen v is parts = sym (append_assoc rest (v ∷ []) seen) ∙ ap (λ (vs : List Version). vs ++ seen) (sym is) ∙ parts

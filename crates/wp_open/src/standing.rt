@@ -1,24 +1,26 @@
 //! The history that stands for what a log spells and for the versions of tables.
-ghost use Rattle.std.specs.Prelude.{◌≡◌, ◌⊎◌, map, IfOk, IfErr, OnOk};
+ghost use Rattle.std.specs.Prelude.{◌≡◌, ◌⊎◌, List, map, IfOk, IfErr, OnOk};
 ghost use Rattle.std.specs.Arc.{arc_value};
 ghost use Rattle.std.specs.List.{list_all};
+ghost use Rattle.wp_model.specs.declared.carried.Carried.{Carried};
 ghost use Rattle.wp_model.specs.Versions.{AreInOrder};
 ghost use Rattle.wp_cuts.specs.Cut.{base_value};
 ghost use Rattle.wp_cuts.specs.LegalCut.{AreBelow, AreNumbered, prepares_of};
-ghost use Rattle.wp_history.specs.History.{HasBaseValues, IsStore};
+ghost use Rattle.wp_history.specs.History.{HasBaseValues, IsStore, Leaves};
+ghost use Rattle.wp_history.specs.Holders.{Holds};
 ghost use Rattle.wp_history.specs.Outline.{cut_in};
 ghost use Rattle.wp_cover.specs.Sources.{is_fixed};
 ghost use Rattle.wp_contents.specs.Opens.{all_in, history_over};
-ghost use Rattle.wp_open.specs.Standing.{Leaves, IsOverCause, fits, is_under};
+ghost use Rattle.wp_open.specs.Standing.{IsOverCause, fits, is_under};
 ghost use Rattle.wp_refused.specs.Tables.{IsHistoryCause};
 
 use std::alloc::{AllocError, Global};
 use std::collections::{BTreeMap, VecDeque};
 use std::snapshot::Snapshot;
 use std::sync::Arc;
-use wp_history::{History, Outline};
+use wp_history::{History, Holders, Outline};
 use wp_merge::merged_lists_are_sorted;
-use wp_model::{Carried, Key, Seq, Value, Version, Versions};
+use wp_model::{Key, Seq, Value, Version, Versions};
 use wp_refused::{Bad, OpenError};
 use wp_store::merged_tables;
 use wp_table::Table;
@@ -58,36 +60,34 @@ fn versions_below(
     merged_tables(alloc, &shared)
 }
 
-/// Whether the version is below the carried prepare, or has no key of it.
-fn is_under(version: &Version, x: &Carried) -> bool
-    ensures { result ≡ is_under version.now x.now }
+/// Whether the version is below the carried prepare that has its key, if one has.
+fn is_under(holders: &Holders, version: &Version) -> bool
+    ensures { (carried : List Carried) → Holds carried holders.now → result ≡ list_all (is_under version.now) carried }
 {
-    x.batch.get(&version.key).is_none() || version.number < x.number
-}
-
-/// Whether the version is below each carried prepare that has its key.
-fn is_under_each(outline: &Outline, version: &Version) -> bool
-    ensures { result ≡ list_all (is_under version.now) (cut_in outline.now).carried }
-{
-    outline.carried().iter().all(|x| is_under(version, x))
+    match holders.holder_of(&version.key) {
+        Some(number) => version.number < number,
+        None => true,
+    }
 }
 
 /// Whether the version's number is not fixed, or it is below each carried prepare that has its key.
-fn fits(outline: &Outline, version: &Version) -> bool
+fn fits(outline: &Outline, holders: &Holders, version: &Version) -> bool
+    requires { Holds (cut_in outline.now).carried holders.now }
     ensures { result ≡ fits outline.now version.now }
 {
-    !is_fixed(outline, version.number) || is_under_each(outline, version)
+    !is_fixed(outline, version.number) || is_under(holders, version)
 }
 
 /// Whether each version with a fixed number is below each carried prepare that has its key.
-fn are_below(outline: &Outline, versions: &Versions) -> bool
+fn are_below(outline: &Outline, holders: &Holders, versions: &Versions) -> bool
+    requires { Holds (cut_in outline.now).carried holders.now }
     ensures value { result ≡ list_all (fits outline.now) versions.now }
     ensures in_order { AreInOrder versions.now }
 {
     versions
         .as_slice()
         .iter()
-        .all(|version| fits(outline, version))
+        .all(|version| fits(outline, holders, version))
 }
 
 /// Leaves under the version's key what it has, or nothing where it is a deletion.
@@ -140,7 +140,7 @@ fn not_below(outline: &Outline, store: &BTreeMap<Key, Value>) -> Bad
 }
 
 /// The history that stands for what a log tells and for these tables, the newest first. Each of its undos is judged by what the tables had
-/// at the base. It looks at each version once for each prepare that is carried.
+/// at the base.
 pub(crate) fn history_of(
     alloc: Global,
     outline: Outline,
@@ -155,7 +155,8 @@ pub(crate) fn history_of(
 {
     let versions = versions_below(alloc, &outline, tables)?;
     let shown = Snapshot::of(&versions);
-    let below = are_below(&outline, &versions);
+    let holders = outline.carried_holders(alloc)?;
+    let below = are_below(&outline, &holders, &versions);
     let store = base_store(alloc, &outline, versions)?;
     if !below {
         let outline = outline.with_versions(shown);

@@ -170,12 +170,6 @@ impl Store {
         }
         Ok(tables)
     }
-    /// How many tables there are.
-    pub fn table_count(&self) -> usize
-        ensures { result ≡ length self.now.tables }
-    {
-        self.tables.len()
-    }
 }
 
 // Written out, so that no crate above proves anew how all that it holds is let go.

@@ -35,8 +35,8 @@ use Rattle.wp_history.proofs.Apart.{are_apart}
 use Rattle.wp_history.proofs.Judged.{legal_by_both}
 use Rattle.wp_history.proofs.Kept.{kept_at_base}
 use Rattle.wp_wal.specs.declared.error.WalError.{WalError}
-use Rattle.wp_wal.specs.declared.error.WalError.TheVariants.{BadRecord}
-use Rattle.wp_wal.specs.Reading.{BeginsWith, IsBaseCause, IsBaseOf, IsIllegalAmong, IsIllegalRecord, IsJudged, IsNoRecord, IsRecordCause, IsTold, MayCome, TakesRecord, next_number}
+use Rattle.wp_wal.specs.declared.error.WalError.TheVariants.{Memory, DiskFault, BadHead, BadRecord, Illegal}
+use Rattle.wp_wal.specs.Reading.{AreRefusedEntries, BeginsWith, IsBaseCause, IsBaseOf, IsIllegalAmong, IsIllegalRecord, IsJudged, IsNoRecord, IsRecordCause, IsRefusedEntry, IsRefusedRecord, IsTold, MayCome, TakesRecord, next_number}
 use Rattle.wp_wal.specs.Spelling.{AreCut, IsBegun, base_of_cut, longer, uncut}
 use Rattle.wp_wal.proofs.CutLemmas.{base_refused, begun-push, placed}
 use Rattle.wp_wal.proofs.EntriesLemmas.{last_below}
@@ -115,7 +115,7 @@ cut_longer old new more told base entries =
     λ i. record { base = old.base; carried = carried_of (take-append-le old.base old.entries more within i); entries = drop-append-le old.base old.entries more within i } in
     here ∙ parts
 
-pub illegal_there : (old here : RoomyHistory) (entries before after : List Entry) (entry : Entry) (number : ℕ) → entries ≡ before ++ entry ∷ after → cut_in here ≡ longer (cut_in old) before → IsTold here → (MayCome (cut_in here) entry → ⊥) → number ≡ length here.entries + 1
+illegal_there : (old here : RoomyHistory) (entries before after : List Entry) (entry : Entry) (number : ℕ) → entries ≡ before ++ entry ∷ after → cut_in here ≡ longer (cut_in old) before → IsTold here → (MayCome (cut_in here) entry → ⊥) → number ≡ next_number (cut_in here)
     → IsIllegalAmong (cut_in old) entries number
 illegal_there old here entries before after entry number parts cut told illegal at = record {
   before = before;
@@ -124,8 +124,16 @@ illegal_there old here entries before after entry number parts cut told illegal 
   parts = parts;
   judged = subst IsJudged cut told.judged;
   illegal = subst (λ (c : Cut). MayCome c entry → ⊥) cut illegal;
-  at = at ∙ sym (told_long here told.full) ∙ ap next_number cut;
+  at = at ∙ ap next_number cut;
 }
+
+pub refused_there : (old here : RoomyHistory) (entries before after : List Entry) (entry : Entry) (why : WalError) → entries ≡ before ++ entry ∷ after → cut_in here ≡ longer (cut_in old) before → IsTold here → IsRefusedEntry (cut_in here) entry why
+    → AreRefusedEntries (cut_in old) entries why
+refused_there old here entries before after entry Memory parts cut told refused = tt
+refused_there old here entries before after entry DiskFault parts cut told refused = absurd refused
+refused_there old here entries before after entry BadHead parts cut told refused = absurd refused
+refused_there old here entries before after entry (BadRecord index why) parts cut told refused = absurd refused
+refused_there old here entries before after entry (Illegal number) parts cut told refused = illegal_there old here entries before after entry number parts cut told refused.1 refused.0
 
 -- the entries of a record have numbers that a log may have
 pub few_there : (format : Format) (h : RoomyHistory) (due : ℕ) (entries : List Entry) → due ≡ length h.entries + 1 → IsRecord format due entries → length h.entries + length entries < log_end
@@ -145,7 +153,7 @@ takes_there format old mid new due entries bytes told base same base_too more nu
       whole = cut_longer old new entries told (base_too ∙ base) (more ∙ ap (λ (es : List Entry). es ++ entries) same);
     }
 
-pub illegal_record : (format : Format) (old mid : RoomyHistory) (due : ℕ) (entries : List Entry) (bytes : List ℕ) (number : ℕ) → IsTold old → mid.base ≡ old.base → mid.entries ≡ old.entries → due ≡ length old.entries + 1
+illegal_record : (format : Format) (old mid : RoomyHistory) (due : ℕ) (entries : List Entry) (bytes : List ℕ) (number : ℕ) → IsTold old → mid.base ≡ old.base → mid.entries ≡ old.entries → due ≡ length old.entries + 1
     → IsRecord format due entries → bytes ≡ record_bytes format due entries → IsIllegalAmong (cut_in mid) entries number → IsIllegalRecord format (cut_in old) bytes number
 illegal_record format old mid due entries bytes number told base same numbered is spelling among =
     let here : due ≡ next_number (cut_in old) = numbered ∙ sym (told_long old told.full) in
@@ -155,6 +163,14 @@ illegal_record format old mid due entries bytes number told base same numbered i
       spelling = spelling ∙ ap (λ (n : ℕ). record_bytes format n entries) here;
       among = subst (λ (c : Cut). IsIllegalAmong c entries number) (cut_same old mid base same) among;
     }
+
+pub entries_refused : (format : Format) (old mid : RoomyHistory) (due index : ℕ) (entries : List Entry) (bytes : List ℕ) (why : WalError) → IsTold old → mid.base ≡ old.base → mid.entries ≡ old.entries → due ≡ length old.entries + 1
+    → IsRecord format due entries → bytes ≡ record_bytes format due entries → AreRefusedEntries (cut_in mid) entries why → IsRefusedRecord format (cut_in old) index bytes why
+entries_refused format old mid due index entries bytes Memory told base same numbered is spelling refused = tt
+entries_refused format old mid due index entries bytes DiskFault told base same numbered is spelling refused = absurd refused
+entries_refused format old mid due index entries bytes BadHead told base same numbered is spelling refused = absurd refused
+entries_refused format old mid due index entries bytes (BadRecord at why) told base same numbered is spelling refused = absurd refused
+entries_refused format old mid due index entries bytes (Illegal number) told base same numbered is spelling refused = illegal_record format old mid due entries bytes number told base same numbered is spelling refused
 
 pub no_record_there : (format : Format) (h : RoomyHistory) (due : ℕ) (bytes : List ℕ) (why : RecordError) → IsTold h → due ≡ length h.entries + 1 → record_at format due bytes ≡ Err why → IsNoRecord format (cut_in h) bytes why
 no_record_there format h due bytes why told numbered wrong = record {

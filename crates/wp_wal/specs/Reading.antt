@@ -2,7 +2,7 @@
 use Rattle.std.specs.Prelude.{◌≡◌, ◌≢◌, ◌⊎◌, ℕ, ◌+◌, List, [], ◌∷◌, ◌++◌, length, take, Some, Err, slice_get}
 use Rattle.wp_model.specs.declared.entry.Entry.{Entry}
 use Rattle.wp_model.specs.Legal.{IsLegal, IsLegalNext, IsOrderlyNext}
-use Rattle.wp_cuts.specs.Cut.{Cut}
+use Rattle.wp_cuts.specs.Cut.{Cut, carried_of}
 use Rattle.wp_cuts.specs.LegalCut.{IsOrderlyCut, prepares_of}
 use Rattle.wp_fields.specs.declared.format.Format.{Format}
 use Rattle.wp_fields.specs.declared.format.Format.TheVariants.{One, Two}
@@ -13,6 +13,8 @@ use Rattle.wp_entry.specs.BaseReading.{base_at}
 use Rattle.wp_entry.specs.Record.{IsRecord, record_bytes}
 use Rattle.wp_entry.specs.Reading.{record_at}
 use Rattle.wp_history.specs.History.{RoomyHistory}
+use Rattle.wp_history.specs.Holders.{Holds}
+use Rattle.wp_history.specs.declared.holders.Holders.{Holders}
 use Rattle.wp_history.specs.Outline.{collision_of, cut_in}
 use Rattle.wp_wal.specs.declared.error.WalError.{WalError}
 use Rattle.wp_wal.specs.declared.error.WalError.TheVariants.{Memory, DiskFault, BadHead, BadRecord, Illegal}
@@ -27,6 +29,11 @@ pub record IsJudged (c : Cut) : Type 0 where
 pub record IsTold (h : RoomyHistory) : Type 0 where
   pub full : h.entries ≡ prepares_of (cut_in h)
   pub judged : IsJudged (cut_in h)
+
+-- ... with who has the names and the keys of what it leaves undecided
+pub record IsReading (h : RoomyHistory) (holders : Holders) : Type 0 where
+  pub told : IsTold h
+  pub holds : Holds (carried_of h.entries) holders
 
 -- as far as it tells, the entry may come behind the cut
 abbrev pub MayCome : Cut → Entry → Type 0
@@ -59,6 +66,17 @@ pub record IsIllegalAmong (c : Cut) (entries : List Entry) (number : ℕ) : Type
   pub judged : IsJudged (longer c before)
   pub illegal : MayCome (longer c before) entry → ⊥
   pub at : number ≡ next_number (longer c before)
+
+-- why the entry, or one of these entries, does not come behind the cut; of memory it says nothing
+abbrev pub IsRefusedEntry : Cut → Entry → WalError → Type 0
+IsRefusedEntry c entry Memory = Unit {0}
+IsRefusedEntry c entry (Illegal number) = (number ≡ next_number c) × (MayCome c entry → ⊥)
+IsRefusedEntry c entry other = ⊥
+
+abbrev pub AreRefusedEntries : Cut → List Entry → WalError → Type 0
+AreRefusedEntries c entries Memory = Unit {0}
+AreRefusedEntries c entries (Illegal number) = IsIllegalAmong c entries number
+AreRefusedEntries c entries other = ⊥
 
 -- the bytes behind the cut are a record, and the entry with this number may not be where it is
 pub record IsIllegalRecord (format : Format) (c : Cut) (bytes : List ℕ) (number : ℕ) : Type 0 where

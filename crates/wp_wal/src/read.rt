@@ -1,65 +1,82 @@
 //! Reading what records spell: a base, if there is one, and the entries behind it.
 ghost use Rattle.std.specs.Prelude.{◌≡◌, ◌↔◌, true, ◌+◌, ◌-◌, ◌≤◌, ◌<◌, ◌∷◌, ◌++◌, [], length, IfOk, IfErr, OnOk};
+ghost use Rattle.wp_cuts.specs.Cut.{carried_of};
 ghost use Rattle.wp_cuts.specs.LegalCut.{prepares_of};
 ghost use Rattle.wp_model.specs.Legal.{log_end};
+ghost use Rattle.wp_history.specs.Holders.{Holds};
 ghost use Rattle.wp_history.specs.Outline.{cut_in};
 ghost use Rattle.wp_wal.specs.Spelling.{AreCut};
-ghost use Rattle.wp_wal.specs.Reading.{BeginsWith, IsBaseCause, IsBaseOf, IsRecordCause, IsRefusedRecord, IsIllegalAmong, IsTold, MayCome, TakesRecord};
+ghost use Rattle.wp_wal.specs.Reading.{AreRefusedEntries, BeginsWith, IsBaseCause, IsBaseOf, IsReading, IsRecordCause, IsRefusedEntry, IsRefusedRecord, IsTold, MayCome, TakesRecord};
 
 use crate::error::WalError;
-use std::alloc::Global;
+use std::alloc::{AllocError, Global};
 use std::collections::BTreeMap;
 use wp_entry::{RecordError, read_base, read_record};
 use wp_fields::Format;
 use wp_gatelog::StoredRecord;
-use wp_history::{Outline, first_collision};
+use wp_history::{Holders, HoldersError, Outline};
 use wp_model::{Entry, Seq};
 
-/// Whether the entry may come next, as far as a log tells: what an undo restores is known where there is no base.
-fn may_come(alloc: Global, outline: &Outline, entry: &Entry) -> bool
-    requires { outline.now.entries ≡ prepares_of (cut_in outline.now) }
-    ensures { (result ≡ true) ↔ MayCome (cut_in outline.now) entry.now }
-{
-    if !outline.is_orderly_next(entry) {
-        return false;
-    }
-    if outline.base() > 0 {
-        return true;
-    }
-    let store = BTreeMap::new(alloc);
-    outline.restores_prior(&store, entry, outline.published())
+/// What was read so far, and who has the names and the keys of what it leaves undecided.
+#[derive(Drop)]
+struct Reading {
+    outline: Outline,
+    holders: Holders,
 }
 
-/// Puts the entry behind the others, if it may come there: else the error is its number.
-fn take_entry(alloc: Global, outline: &mut Outline, entry: Entry) -> Result<(), Seq>
-    requires told { IsTold outline.old }
-    requires few { length outline.old.entries + 1 < log_end }
-    requires room { 1 ≤ outline.old.room }
-    ensures told { IsTold outline.new }
-    ensures base { outline.new.base ≡ outline.old.base }
-    ensures entries { OnOk result (outline.new.entries ≡ outline.old.entries ++ entry ∷ []) }
-    ensures room { OnOk result (outline.new.room ≡ outline.old.room - 1) }
-    ensures err { IfErr result (λ number. (number ≡ length outline.old.entries + 1) × (MayCome (cut_in outline.old) entry → ⊥)) }
+/// Whether the entry may come next, as far as a log tells: what an undo restores is known where there is no base. If it may, the
+/// holders are those behind it then.
+fn may_come(alloc: Global, reading: &mut Reading, entry: &Entry) -> Result<bool, AllocError>
+    requires full { reading.old.outline.entries ≡ prepares_of (cut_in reading.old.outline) }
+    requires holds { Holds (carried_of reading.old.outline.entries) reading.old.holders }
+    ensures outline { reading.new.outline ≡ reading.old.outline }
+    ensures may { IfOk result (λ may. (may ≡ true) ↔ MayCome (cut_in reading.old.outline) entry.now) }
+    ensures holds { IfOk result (λ may. may ≡ true → Holds (carried_of (reading.old.outline.entries ++ entry.now ∷ [])) reading.new.holders) }
 {
-    if !may_come(alloc, outline, &entry) {
-        return Err(outline.published() + 1);
+    let outline = &reading.outline;
+    let may = outline.note(&mut reading.holders, entry)?;
+    if !may {
+        return Ok(false);
     }
-    outline.push(entry);
+    if outline.base() > 0 {
+        return Ok(true);
+    }
+    let store = BTreeMap::new(alloc);
+    Ok(outline.restores_prior(&store, entry, outline.published()))
+}
+
+/// Puts the entry behind the others, if it may come there: else the error has its number.
+fn take_entry(alloc: Global, reading: &mut Reading, entry: Entry) -> Result<(), WalError>
+    requires told { IsReading reading.old.outline reading.old.holders }
+    requires few { length reading.old.outline.entries + 1 < log_end }
+    requires room { 1 ≤ reading.old.outline.room }
+    ensures told { OnOk result (IsReading reading.new.outline reading.new.holders) }
+    ensures base { reading.new.outline.base ≡ reading.old.outline.base }
+    ensures entries { OnOk result (reading.new.outline.entries ≡ reading.old.outline.entries ++ entry ∷ []) }
+    ensures room { OnOk result (reading.new.outline.room ≡ reading.old.outline.room - 1) }
+    ensures err { IfErr result (IsRefusedEntry (cut_in reading.old.outline) entry) }
+{
+    let may = may_come(alloc, reading, &entry)?;
+    if !may {
+        let number = reading.outline.published() + 1;
+        return Err(WalError::Illegal { number });
+    }
+    reading.outline.push(entry);
     Ok(())
 }
 
-/// Puts the entries behind the others, up to the first that may not come there: the error is its number.
-fn take_entries(alloc: Global, outline: &mut Outline, entries: Vec<Entry>) -> Result<(), Seq>
-    requires told { IsTold outline.old }
-    requires few { length outline.old.entries + length entries.items < log_end }
-    requires room { length entries.items ≤ outline.old.room }
-    ensures told { OnOk result (IsTold outline.new) }
-    ensures base { outline.new.base ≡ outline.old.base }
-    ensures ok { OnOk result (outline.new.entries ≡ outline.old.entries ++ entries.items) }
-    ensures err { IfErr result (IsIllegalAmong (cut_in outline.old) entries.items) }
+/// Puts the entries behind the others, up to the first that may not come there: the error has its number.
+fn take_entries(alloc: Global, reading: &mut Reading, entries: Vec<Entry>) -> Result<(), WalError>
+    requires told { IsReading reading.old.outline reading.old.holders }
+    requires few { length reading.old.outline.entries + length entries.items < log_end }
+    requires room { length entries.items ≤ reading.old.outline.room }
+    ensures told { OnOk result (IsReading reading.new.outline reading.new.holders) }
+    ensures base { reading.new.outline.base ≡ reading.old.outline.base }
+    ensures ok { OnOk result (reading.new.outline.entries ≡ reading.old.outline.entries ++ entries.items) }
+    ensures err { IfErr result (AreRefusedEntries (cut_in reading.old.outline) entries.items) }
 {
     for entry in entries {
-        take_entry(alloc, outline, entry)?;
+        take_entry(alloc, reading, entry)?;
     }
     Ok(())
 }
@@ -68,33 +85,30 @@ fn take_entries(alloc: Global, outline: &mut Outline, entries: Vec<Entry>) -> Re
 fn take_record(
     alloc: Global,
     format: Format,
-    outline: &mut Outline,
+    reading: &mut Reading,
     index: u64,
     bytes: &[u8],
 ) -> Result<(), WalError>
-    requires { IsTold outline.old }
-    ensures told { OnOk result (IsTold outline.new) }
-    ensures ok { OnOk result (TakesRecord format (cut_in outline.old) (cut_in outline.new) bytes.now) }
-    ensures err { IfErr result (IsRefusedRecord format (cut_in outline.old) index bytes.now) }
+    requires { IsReading reading.old.outline reading.old.holders }
+    ensures told { OnOk result (IsReading reading.new.outline reading.new.holders) }
+    ensures ok { OnOk result (TakesRecord format (cut_in reading.old.outline) (cut_in reading.new.outline) bytes.now) }
+    ensures err { IfErr result (IsRefusedRecord format (cut_in reading.old.outline) index bytes.now) }
 {
-    let due = outline.published() + 1;
+    let due = reading.outline.published() + 1;
     let entries = match read_record(alloc, bytes, format, due) {
         Ok(entries) => entries,
         Err(RecordError::Memory) => return Err(WalError::Memory),
         Err(why) => return Err(WalError::BadRecord { index, why }),
     };
-    outline.reserve(entries.len())?;
-    match take_entries(alloc, outline, entries) {
-        Ok(()) => Ok(()),
-        Err(number) => Err(WalError::Illegal { number }),
-    }
+    reading.outline.reserve(entries.len())?;
+    take_entries(alloc, reading, entries)
 }
 
 /// The base that the record is, without entries behind it. Two carried prepares with one name, or with one key, are illegal by the
 /// number of the later one.
-fn take_base(alloc: Global, bytes: &[u8]) -> Result<Outline, WalError>
-    ensures told { IfOk result IsTold }
-    ensures ok { IfOk result (λ outline. IsBaseOf (cut_in outline) bytes.now) }
+fn take_base(alloc: Global, bytes: &[u8]) -> Result<Reading, WalError>
+    ensures told { IfOk result (λ reading. IsReading reading.outline reading.holders) }
+    ensures ok { IfOk result (λ reading. IsBaseOf (cut_in reading.outline) bytes.now) }
     ensures err { IfErr result (IsBaseCause bytes.now) }
 {
     let base = match read_base(alloc, bytes) {
@@ -102,10 +116,23 @@ fn take_base(alloc: Global, bytes: &[u8]) -> Result<Outline, WalError>
         Err(RecordError::Memory) => return Err(WalError::Memory),
         Err(why) => return Err(WalError::BadRecord { index: 0, why }),
     };
-    if let Some(number) = first_collision(&base.carried) {
-        return Err(WalError::Illegal { number });
-    }
-    Ok(Outline::from_base(alloc, base.number, base.carried)?)
+    let holders = match Holders::of(alloc, &base.carried) {
+        Ok(holders) => holders,
+        Err(HoldersError::Memory) => return Err(WalError::Memory),
+        Err(HoldersError::Collision(number)) => return Err(WalError::Illegal { number }),
+    };
+    let outline = Outline::from_base(alloc, base.number, base.carried)?;
+    Ok(Reading { outline, holders })
+}
+
+/// The reading that begins without a base.
+fn without_base(alloc: Global, outline: Outline) -> Reading
+    requires { (outline.base ≡ 0) × (outline.entries ≡ []) }
+    ensures outline { result.outline ≡ outline }
+    ensures told { IsReading result.outline result.holders }
+{
+    let holders = Holders::new(alloc);
+    Reading { outline, holders }
 }
 
 /// What stands before the records of entries, and how many records that takes.
@@ -114,9 +141,9 @@ fn begin(
     format: Format,
     place: u64,
     records: &[StoredRecord],
-) -> Result<(Outline, usize), WalError>
-    ensures told { IfOk result (λ begun. IsTold begun.0) }
-    ensures ok { IfOk result (λ begun. BeginsWith format place records.now begun.1 (cut_in begun.0)) }
+) -> Result<(Reading, usize), WalError>
+    ensures told { IfOk result (λ begun. IsReading begun.0.outline begun.0.holders) }
+    ensures ok { IfOk result (λ begun. BeginsWith format place records.now begun.1 (cut_in begun.0.outline)) }
     ensures err { IfErr result (IsRecordCause format place records.now) }
 {
     let Some(first) = records.first() else {
@@ -126,10 +153,13 @@ fn begin(
                 why: RecordError::Short,
             });
         }
-        return Ok((Outline::new(alloc), 0));
+        return Ok((without_base(alloc, Outline::new(alloc)), 0));
     };
     match format {
-        Format::One => Ok((Outline::with_capacity(alloc, records.len())?, 0)),
+        Format::One => {
+            let outline = Outline::with_capacity(alloc, records.len())?;
+            Ok((without_base(alloc, outline), 0))
+        }
         Format::Two => Ok((take_base(alloc, first.bytes())?, 1)),
     }
 }
@@ -146,9 +176,9 @@ pub(crate) fn outline_of(
     ensures ok { IfOk result (λ outline. AreCut format place records.now (cut_in outline)) }
     ensures err { IfErr result (IsRecordCause format place records.now) }
 {
-    let (mut outline, first) = begin(alloc, format, place, records)?;
+    let (mut reading, first) = begin(alloc, format, place, records)?;
     for i in first..records.len() {
-        take_record(alloc, format, &mut outline, i as u64, records[i].bytes())?;
+        take_record(alloc, format, &mut reading, i as u64, records[i].bytes())?;
     }
-    Ok(outline)
+    Ok(reading.outline)
 }

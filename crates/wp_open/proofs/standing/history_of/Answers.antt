@@ -61,7 +61,7 @@ returns-in-Ok-clause-below c =
     below_either (cut_in o) c.in_ok-versions.versions (map arc_value c.args.tables.now) c.in_ok-versions.ensures.either
     (is_below o [] c.in_ok-versions.versions c.are_below-below.ensures.in_order c.versions_below.ensures.numbered c.requires c.are_below-below.result c.are_below-below.ensures.value c.if-not-below.false)
 
-pub returns-in-Err-clause-cause : goal.returns-in-Err-clause-cause
-returns-in-Err-clause-cause c =
+pub returns-clause-cause : goal.returns-clause-cause
+returns-clause-cause c =
     let o = c.args.outline in
     wrong_over o c.in_ok-versions.versions (map arc_value c.args.tables.now) c.in_ok-versions.ensures.either c.in-Err.number (rw c.of-shown.ensures at c.in-Err.ensures.wrong)

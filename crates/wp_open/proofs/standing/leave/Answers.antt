@@ -1,6 +1,6 @@
 use Rattle.std.proofs.Common.{sym, subst, Some, None}
-use Rattle.wp_open.specs.Standing.{Leaves}
-use Rattle.wp_open.proofs.OverTables.{leaves_by}
+use Rattle.wp_history.specs.History.{Leaves}
+use Rattle.wp_history.proofs.Holding.{leaves_by}
 use Rattle.wp_open.proofs.standing.leave.Goals as goal
 
 pub returns-in_default : goal.returns-in_default

@@ -1,27 +1,22 @@
 use Rattle.std.proofs.Common.{sym, arith}
 use Rattle.std.proofs.lemmas.Result.{err_from_is_err_and}
-use Rattle.wp_wal.proofs.Told.{begins_none, begins_one, begins_two, first_refused, missing, none_first, some_first, told_none}
+use Rattle.wp_wal.proofs.Told.{begins_none, begins_one, begins_two, first_refused, missing, none_first, some_first}
 use Rattle.wp_wal.proofs.read.begin.Goals as goal
 
 pub returns-then-place-gt0-clause-err : goal.returns-then-place-gt0-clause-err
 returns-then-place-gt0-clause-err c = missing c.args.format c.args.place c.args.records.now (none_first c.args.records.now (rw c.in_default.is at c.first.ensures.value)) c.if-place-gt0.true
 
-pub returns-in_default-clause-told : goal.returns-in_default-clause-told
-returns-in_default-clause-told c = told_none c.new.result c.new.ensures.base c.new.ensures.entries
-
 pub returns-in_default-clause-ok : goal.returns-in_default-clause-ok
-returns-in_default-clause-ok c = begins_none c.args.format c.args.place c.args.records.now c.new.result (none_first c.args.records.now (rw c.in_default.is at c.first.ensures.value)) (omega (arith, c.if-place-gt0.false)) c.new.ensures.base c.new.ensures.entries
+returns-in_default-clause-ok c = rw c.without_base.ensures.outline (begins_none c.args.format c.args.place c.args.records.now c.new.result (none_first c.args.records.now (rw c.in_default.is at c.first.ensures.value)) (omega (arith, c.if-place-gt0.false)) c.new.ensures.base c.new.ensures.entries)
 
-pub returns-in_ok-with_capacity-in-One-clause-told : goal.returns-in_ok-with_capacity-in-One-clause-told
-returns-in_ok-with_capacity-in-One-clause-told c = told_none c.in_ok-with_capacity-in-One.field-0 c.in_ok-with_capacity-in-One.ensures.base c.in_ok-with_capacity-in-One.ensures.entries
-
-pub returns-in_ok-with_capacity-in-One-clause-ok : goal.returns-in_ok-with_capacity-in-One-clause-ok
-returns-in_ok-with_capacity-in-One-clause-ok c =
-    rw c.in-One.is (begins_one c.args.place c.args.records.now c.in_ok-with_capacity-in-One.field-0 (some_first c.args.records.now c.in-Some.first.now (rw c.in-Some.is at c.first.ensures.value)) c.in_ok-with_capacity-in-One.ensures.base c.in_ok-with_capacity-in-One.ensures.entries)
+pub returns-in_ok-outline-in-One-clause-ok : goal.returns-in_ok-outline-in-One-clause-ok
+returns-in_ok-outline-in-One-clause-ok c =
+    let its = c.in_ok-outline-in-One.ensures in
+    rw (c.in-One.is, c.without_base-in-One.ensures.outline) (begins_one c.args.place c.args.records.now c.in_ok-outline-in-One.outline (some_first c.args.records.now c.in-Some.first.now (rw c.in-Some.is at c.first.ensures.value)) its.base its.entries)
 
 pub returns-in_ok-take_base-in-Two-clause-ok : goal.returns-in_ok-take_base-in-Two-clause-ok
 returns-in_ok-take_base-in-Two-clause-ok c =
-    rw c.in-Two.is (begins_two c.args.place c.args.records.now c.in-Some.first.now c.in_ok-take_base-in-Two.field-0 (sym (rw c.in-Some.is at c.first.ensures.value)) (rw c.bytes.ensures at c.in_ok-take_base-in-Two.ensures.ok))
+    rw c.in-Two.is (begins_two c.args.place c.args.records.now c.in-Some.first.now c.in_ok-take_base-in-Two.field-0.outline (sym (rw c.in-Some.is at c.first.ensures.value)) (rw c.bytes.ensures at c.in_ok-take_base-in-Two.ensures.ok))
 
 pub returns-in_err-take_base-in-Two-clause-err : goal.returns-in_err-take_base-in-Two-clause-err
 returns-in_err-take_base-in-Two-clause-err c =
