@@ -74,7 +74,7 @@ each_map_more f P xs c new k = subst (EachAt P) (sym (map_more f xs c)) (each_mo
 pub at_map_more : {A X : Type 0} (f : A → X) (xs : List A) (c : A) (j : ℕ) (x : X) → get_elem? (map f xs) j ≡ some x → get_elem? (map f (xs ++ c ∷ [])) j ≡ some x
 at_map_more {A} {X} f xs c j x e = ap (λ (z : List X). get_elem? z j) (map_more f xs c) ∙ at_front (map f xs) (f c ∷ []) j x e
 
--- who holds a turn has its table, with one actor more
+-- who holds a turn has its state, with one actor more
 pub have_more : (h : Holders) (xs : List Actor) (c : Actor) → HoldersHave h (map held_of xs) → HoldersHave h (map held_of (xs ++ c ∷ []))
 have_more h xs c k turn j holds = let o = k turn j holds in (o.0, at_map_more held_of xs c j o.0 o.1, o.2, o.3, o.4)
 

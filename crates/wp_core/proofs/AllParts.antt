@@ -194,7 +194,7 @@ module _ (w : World) (by : ℕ) (a b : Actor) (at : get_elem? w.actors by ≡ so
   pub turns_still : b.held ≡ a.held → IsSound w → TurnsOf w (set w.actors by b)
   turns_still same s = record { held = kept_part held_of (EachAt (AreHeld w.holders (content_of w))) same s.held; have = kept_part held_of (HoldersHave w.holders) same s.have }
 
-  -- the actor changes a table that it holds
+  -- the actor changes a state that it holds
   pub turns_changed : (e : Content) → Holds w.holders (turn_of e) by → b.held ≡ held_with a.held e → IsSound w → TurnParts w.holders (content_of (with_content w e)) (set w.actors by b)
   turns_changed e holds is s = record {
     held = each_map_set held_of (AreHeld w.holders (content_of (with_content w e))) w.actors by b
@@ -228,7 +228,7 @@ fixed_of a = (a.participant, a.learned, role_of a)
 people_same : {X : Type 0} (f : Participant → X) (a b : Actor) → fixed_of b ≡ fixed_of a → participants_of f b ≡ participants_of f a
 people_same f a b same i = f (same i).0 ∷ map f (same i).2.joined
 
--- the actor is the same but for what it holds, reads and noted, in a world that differs in its tables and words
+-- the actor is the same but for what it holds, reads and noted, in a world that differs in its states and words
 pub quiet_step : (w v : World) (by : ℕ) (a b : Actor) → get_elem? w.actors by ≡ some a → fixed_of b ≡ fixed_of a → TablesOf v → ViewsOf v w.actors → LocksOf v w.actors → PastsOf v w.actors → TurnsOf v (set w.actors by b)
     → ReadersOf v (set w.actors by b) → NotesOf v (set w.actors by b) → AreIdle (set w.actors by b) → IsSound w → IsSound (record v { actors = set w.actors by b })
 quiet_step w v by a b at same tables views locks pasts turns readers notes idle s =

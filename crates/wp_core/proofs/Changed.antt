@@ -1,4 +1,4 @@
--- What a change of one table leaves of what actors hold.
+-- What a change of one state leaves of what actors hold.
 use Rattle.std.proofs.Common.{◌≡◌, ◌≢◌, ⊎_elim, inl, inr, ℕ, Bool, true, false, cond, ◌==◌, eq-eqb, true≢false, List, [], ◌∷◌, map, set, refl, sym, subst, ap, ◌∙◌, arith}
 use Rattle.std.proofs.lemmas.Bool.Decides.{nat_tests}
 use mathlib.Core.Option.{some, some-injective}
@@ -36,7 +36,7 @@ pub others_hold : (w : World) (c : Content) (by j : ℕ) (held : List Content) �
 others_hold w c by j [] mine ne k = tt
 others_hold w c by j (d ∷ others) mine ne k = (k.0, changed_else w c (turn_of d) (others_turn w.holders (turn_of c) (turn_of d) by j mine ne k.0) ∙ k.1, k.2, others_hold w c by j others mine ne k.3)
 
--- what follows another table of the same actor
+-- what follows another state of the same actor
 after_hold : (w : World) (c : Content) (j : ℕ) (held : List Content) → NoneAfter (turn_of c) held → AreHeld w.holders (content_of w) j held → AreHeld w.holders (content_of (with_content w c)) j held
 after_hold w c j [] none k = tt
 after_hold w c j (d ∷ others) none k = (k.0, changed_else w c (turn_of d) (λ e. none.0 (same_turn (turn_of c) (turn_of d) e)) ∙ k.1, k.2, after_hold w c j others none.1 k.3)
@@ -58,7 +58,7 @@ one_changed w c d by others true is k rest = let same = equal d c is in let none
 one_changed w c d by others false is k rest =
     (k.0, changed_else w c (turn_of d) (λ e. true≢false (sym (eq-eqb (turn_index (turn_of d)) (turn_index (turn_of c)) e) ∙ is)) ∙ k.1, none_with (turn_of d) c others k.2, rest)
 
--- what the actor holds that changes the table
+-- what the actor holds that changes the state
 pub holds_changed : (w : World) (c : Content) (by : ℕ) (held : List Content) → AreHeld w.holders (content_of w) by held → AreHeld w.holders (content_of (with_content w c)) by (held_with held c)
 holds_changed w c by [] k = tt
 holds_changed w c by (d ∷ others) k = one_changed w c d by others (turn_index (turn_of d) == turn_index (turn_of c)) refl k (holds_changed w c by others k.3)
@@ -80,14 +80,14 @@ new_in : (c e : Content) (held : List Content) → turn_of e ≡ turn_of c → I
 new_in c e [] same there = absurd there
 new_in c e (d ∷ others) same there = one_new c d e others (turn_index (turn_of d) == turn_index (turn_of c)) refl same (new_in c e others same) there
 
--- ---- who has the tables whose turns they hold
+-- ---- who has the states whose turns they hold
 
 pub own_have : (h : Holders) (by : ℕ) (actors : List Actor) (a : Actor) → get_elem? actors by ≡ some a → HoldersHave h (map held_of actors) → (u : Turn) → Holds h u by → (c : Content) × IsIn c a.held × (turn_of c ≡ u)
 own_have h by actors a at have u holds =
     let o = have u by holds in
     let same : o.0 ≡ a.held = some-injective o.0 a.held (sym o.1 ∙ at_map held_of actors by a at) in (o.2, subst (IsIn o.2) same o.3, o.4)
 
--- the holders and one actor change: it has the tables of its turns, and others hold no turn that they did not hold
+-- the holders and one actor change: it has the states of its turns, and others hold no turn that they did not hold
 pub have_set : (h g : Holders) (by : ℕ) (actors : List Actor) (a b : Actor) → get_elem? actors by ≡ some a → ((u : Turn) → Holds g u by → (c : Content) × IsIn c b.held × (turn_of c ≡ u)) → ((u : Turn) (j : ℕ) → j ≢ by → Holds g u j → Holds h u j)
     → HoldersHave h (map held_of actors) → HoldersHave g (map held_of (set actors by b))
 have_set h g by actors a b at own others have u j holds = dite (ℕ_discrete j by)
@@ -98,7 +98,7 @@ have_set h g by actors a b at own others have u j holds = dite (ℕ_discrete j b
     let o = have u j (others u j ne holds) in
     (o.0, ap (λ (z : List (List Content)). get_elem? z j) (map_set held_of actors by b) ∙ (set_else (map held_of actors) by j b.held ne ∙ o.1), o.2, o.3, o.4))
 
--- who holds a turn still has the table that it guards
+-- who holds a turn still has the state that it guards
 pub have_changed : (h : Holders) (c : Content) (by : ℕ) (actors : List Actor) (a b : Actor) → get_elem? actors by ≡ some a → b.held ≡ held_with a.held c → HoldersHave h (map held_of actors) → HoldersHave h (map held_of (set actors by b))
 have_changed h c by actors a b at is have = have_set h h by actors a b at
     (λ u holds.

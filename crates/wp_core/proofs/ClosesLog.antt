@@ -1,5 +1,5 @@
 -- Closing the log, after its device failed or the tables' devices did, keeps a world sound.
-use Rattle.std.proofs.Common.{◌≡◌, ◌≢◌, ◌⊎◌, ⊎_elim, inl, inr, ℕ, Bool, true, false, true≢false, List, [], ◌∷◌, ◌++◌, length, map, set, refl, sym, subst, ap, ◌∙◌, arith, Some}
+use Rattle.std.proofs.Common.{◌≡◌, ◌≢◌, ◌⊎◌, ⊎_elim, inl, inr, ℕ, ◌<◌, Bool, true, false, true≢false, List, [], ◌∷◌, ◌++◌, length, map, set, refl, sym, subst, ap, ◌∙◌, arith, Some}
 use mathlib.Core.Option.{some}
 use lib.ListN.{get_elem?}
 use Rattle.wp_model.specs.declared.entry.Entry.{Entry}
@@ -8,7 +8,7 @@ use Rattle.wp_model.specs.Legal.{IsLegal}
 use Rattle.wp_core.specs.Lists.{one_if}
 use Rattle.wp_core.specs.States.{WriteState, writes}
 use Rattle.wp_core.specs.Turns.{Holds, write_turn}
-use Rattle.wp_core.specs.Views.{Event, log_failed, log_stopped, stopped, Fact}
+use Rattle.wp_core.specs.Views.{Event, log_failed, log_stopped, stopped, based_at, Fact}
 use Rattle.wp_core.specs.World.{Participant, Actor, World, content_of, with_content}
 use Rattle.wp_core.specs.World as world
 use Rattle.wp_core.specs.Steps.{Step, close_log, stop_log}
@@ -19,13 +19,13 @@ use Rattle.wp_core.specs.Notes.{forgets}
 use Rattle.wp_core.specs.Sound.Actors.{participants_of}
 use Rattle.wp_core.specs.Sound.History.{IsHistory}
 use Rattle.wp_core.specs.Sound.Segments.{AreCoupled}
-use Rattle.wp_core.specs.Sound.Pasts.{past_of, AreFaults, closes_log, is_tables_fault, due_after, last_after}
+use Rattle.wp_core.specs.Sound.Pasts.{past_of, AreFaults, closes_log, is_tables_fault, raised_to, due_after, last_after}
 use Rattle.wp_core.specs.IsSound.{IsSound}
 use Rattle.wp_core.proofs.OwnersStay.{past_locked}
 use Rattle.wp_core.proofs.PastsGrow.{past_before, times_more}
 use Rattle.wp_core.proofs.PendingSteps.{SoPending}
 use Rattle.wp_core.proofs.Quiet.{idle_after}
-use Rattle.wp_core.proofs.Remembers.{FindsNothing, TellsNothing, holders_still, board_still, edits_still}
+use Rattle.wp_core.proofs.Remembers.{FindsNothing, TellsNothing, not_raised, bases_still, holders_still, board_still, edits_still}
 use Rattle.wp_core.proofs.AllParts.{SoIn, all_parts, views_still, readers_still, turns_changed, notes_stay, led_still}
 use Rattle.wp_core.proofs.Gives.{not_free}
 
@@ -53,6 +53,7 @@ module _ (w : World) (by : ℕ) (a : Actor) (step : Step) (failure : Event) (sto
     pub due : (n : ℕ) → due_after n failure ≡ n
     pub last : (edit : InstalledEdit) → last_after edit failure ≡ edit
     pub record_is : (entries : List Entry) → failure ≡ log_failed entries → failed ≡ entries
+    pub renewing : stops ≡ false → failed ≡ [] → w.writes.segment.base < length w.writes.history
     pub of_log : (entries : List Entry) → failure ≡ log_failed entries → stops ≡ false
     pub behind : failure ≡ log_stopped → w.installed.halted ≡ true
     pub unfailed : failure ≡ log_stopped → (stops ≡ true) × (failed ≡ [])
@@ -88,7 +89,10 @@ module _ (w : World) (by : ℕ) (a : Actor) (step : Step) (failure : Event) (sto
       tables = let m = times_more w.actors by a b failure at refl refl is_tables_fault in let f = s.faults.tables in let none : one_if (is_tables_fault failure) ≡ 0 = ap one_if k.quiet in omega (arith, m, f, none);
       not_logged = λ q. k.still;
       stopped = λ m h. ⊎_elim (λ f. absurd (true≢false (sym (s.faults.stopped m f).0 ∙ k.running))) (λ (q : failure ≡ stopped m). absurd (subst FindsNothing q k.nothing)) (past_before w.actors by a b failure at refl refl (stopped m) h);
+      based = λ m base h. bases_still w.actors by a b failure at refl refl w.writes (λ edit q. absurd (not_raised failure edit k.last edit.flushed (ap raised_to q))) m base
+          (⊎_elim (λ f. s.faults.based m base f) (λ (q : failure ≡ based_at m base). absurd (subst FindsNothing q k.nothing)) (past_before w.actors by a b failure at refl refl (based_at m base) h));
       failed = λ entries h. ⊎_elim (λ f. absurd (true≢false (sym (s.faults.failed entries f).0 ∙ k.running))) (λ (q : failure ≡ log_failed entries). (refl, k.record_is entries q)) (past_before w.actors by a b failure at refl refl (log_failed entries) h);
+      renewing = λ closed. k.renewing;
       of_log = λ entries h. ⊎_elim (λ f. absurd (true≢false (sym (s.faults.failed entries f).0 ∙ k.running))) (λ (q : failure ≡ log_failed entries). k.of_log entries q) (past_before w.actors by a b failure at refl refl (log_failed entries) h);
       behind = λ h. ⊎_elim (λ f. s.faults.behind f) (λ (q : failure ≡ log_stopped). k.behind q) (past_before w.actors by a b failure at refl refl log_stopped h);
       unfailed = λ h.
@@ -110,7 +114,7 @@ module _ (w : World) (by : ℕ) (a : Actor) (step : Step) (failure : Event) (sto
           holders = holders_still w.actors by a b failure at refl refl w.opened w.writes.history w.locks k.nothing s.holders;
           board = board_still w.actors by a b failure at refl refl (world.published w) w.locks k.tells_nothing s.board;
           faults = faults_closed;
-          edits = edits_still w.actors by a b failure at refl refl w.first_edit w.installed k.due k.last k.quiet (λ m base tables due halted q. absurd (subst FindsNothing q k.nothing)) (λ m base tables due q. absurd (subst FindsNothing q k.nothing)) s.edits;
+          edits = edits_still w.actors by a b failure at refl refl w.first_edit w.installed k.due k.last k.quiet (λ m base tables due halted q. absurd (subst FindsNothing q k.nothing)) (λ m base q. absurd (subst FindsNothing q k.nothing)) (λ m base tables due q. absurd (subst FindsNothing q k.nothing)) s.edits;
         }) (turns_changed w by a b at (writes d) k.holds refl s)
         (readers_still w by a b at refl s)
         (notes_stay w by a b at step w.holders (SoPending w d) refl (λ fact left m. record { guarded = m.guarded; is_so = so_closed fact m.is_so }) (λ j x fact ne there m. record { guarded = m.guarded; is_so = others_closed x.0 fact m.is_so }) s)
@@ -118,15 +122,19 @@ module _ (w : World) (by : ℕ) (a : Actor) (step : Step) (failure : Event) (sto
 
 -- ---- an append failed, or the write of a segment
 
+-- there was something to renew
+abbrev Renewing : World → Type 0
+Renewing w = (w.writes.pending ≡ []) × (w.writes.next ≢ Some w.installed.last.segment) × (w.writes.segment.base < length w.writes.history)
+
 pub closes_log_by_fault : (w : World) (by : ℕ) (a : Actor) → get_elem? w.actors by ≡ some a → Needs w by a close_log → IsSound w → IsSound (done w by (forgets w.writes.history (length w.cache) close_log a) close_log)
 closes_log_by_fault w by a at n s = log_closes w by a close_log (log_failed w.writes.pending) w.writes.stopped w.writes.pending at (record {
   holds = n.0;
   running = n.1;
-  still = ⊎_elim (λ (k : (w.writes.pending ≢ []) × (w.writes.logged ≡ false)). inr k.1) (λ (k : (w.writes.pending ≡ []) × (w.writes.next ≢ Some w.installed.last.segment)). inl k.0) n.2;
+  still = ⊎_elim (λ (k : (w.writes.pending ≢ []) × (w.writes.logged ≡ false)). inr k.1) (λ (k : Renewing w). inl k.0) n.2;
   legal = s.history.legal_next;
   not_next = λ is. ⊎_elim
       (λ (k : (w.writes.pending ≢ []) × (w.writes.logged ≡ false)). k.0 ((s.coupled.next w.installed.last.segment is).1 n.1).0)
-      (λ (k : (w.writes.pending ≡ []) × (w.writes.next ≢ Some w.installed.last.segment)). k.1 is)
+      (λ (k : Renewing w). k.1 is)
       n.2;
   closes = refl;
   quiet = refl;
@@ -135,6 +143,7 @@ closes_log_by_fault w by a at n s = log_closes w by a close_log (log_failed w.wr
   due = λ m. refl;
   last = λ m. refl;
   record_is = λ entries q. let same : w.writes.pending ≡ entries = cc in same;
+  renewing = λ unstopped none. ⊎_elim (λ (k : (w.writes.pending ≢ []) × (w.writes.logged ≡ false)). absurd (k.0 none)) (λ (k : Renewing w). k.2) n.2;
   of_log = λ entries q. s.history.not_stopped n.1;
   behind = λ q. absurd cc;
   unfailed = λ q. absurd cc;
@@ -156,6 +165,7 @@ stops_log w by a at n s = log_closes w by a stop_log log_stopped true w.writes.f
   due = λ m. refl;
   last = λ m. refl;
   record_is = λ entries q. absurd cc;
+  renewing = λ q. absurd (true≢false q);
   of_log = λ entries q. absurd cc;
   behind = λ q. n.5;
   unfailed = λ q. (refl, s.history.none_failed n.3);

@@ -56,7 +56,7 @@ cache_dropped w gone s = record {
       record { placed = k.placed; decided = decided_without w.writes.history w.writes.pending q.number q.decision s.history.legal_next (λ is. gone q is (cached_at w i q k.placed there)) k.decided };
 }
 
--- ---- the prepared tables have numbers of the history alone
+-- ---- the prepared sets have numbers of the history alone
 
 delayed_dropped : (w : World) → IsUndelayed w.writes w.prepared → IsSound w → AreDelayed w.writes.history [] w.prepared w.cache
 delayed_dropped w gone s = record {
@@ -119,5 +119,5 @@ stored_dropped w nowhere s =
 pub drops_pending : (w : World) (by : ℕ) (a : Actor) → get_elem? w.actors by ≡ some a → Needs w by a drop_pending → IsSound w → IsSound (done w by (forgets w.writes.history (length w.cache) drop_pending a) drop_pending)
 drops_pending w by a at n s =
     pending_changes w by a drop_pending [] w.writes.logged w.writes.log at n.0 (history_dropped w n.1 s) (cache_dropped w n.2 s) (undecided_dropped w n.5 s) (delayed_dropped w n.3 s) (stored_dropped w n.4 s)
-    (record { log = s.faults.log; tables = s.faults.tables; not_logged = λ closed. inl refl; stopped = s.faults.stopped; failed = s.faults.failed; of_log = s.faults.of_log; behind = s.faults.behind; unfailed = s.faults.unfailed }) (λ segment is running. refl)
+    (record { log = s.faults.log; tables = s.faults.tables; not_logged = λ closed. inl refl; stopped = s.faults.stopped; based = s.faults.based; failed = s.faults.failed; renewing = s.faults.renewing; of_log = s.faults.of_log; behind = s.faults.behind; unfailed = s.faults.unfailed }) (λ segment is running. refl)
     (notes_by w by drop_pending write_turn _ n.0 (so_pending w drop_pending [] w.writes.log w.writes.logged refl refl refl)) s

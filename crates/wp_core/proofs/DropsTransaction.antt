@@ -7,7 +7,7 @@ use Rattle.wp_model.specs.History.{is_undecided, is_changed, name_at, batch_at, 
 use Rattle.wp_model.specs.declared.holder.Holder.{Holder}
 use Rattle.wp_model.specs.declared.holder.Holder.TheVariants.{Txn, Client}
 use Rattle.wp_model.specs.LockState.{LockState}
-use Rattle.wp_core.specs.Views.{Fact, undecided_at, prior_values, unprepared, direct_free}
+use Rattle.wp_core.specs.Views.{Fact, undecided_at, prior_values, unprepared, direct_free, unchanged, locks_stay}
 use Rattle.wp_core.specs.World.{Transaction, Actor, Participant, World}
 use Rattle.wp_core.specs.Steps.{Step}
 use Rattle.wp_core.specs.Notes.{ends, ends_transaction}
@@ -16,9 +16,10 @@ use Rattle.wp_core.specs.Sound.Locks.{Owner, owner_of, IsNameOf, IsDirectOf, IsO
 use Rattle.wp_core.specs.Sound.Views.{Owns}
 use Rattle.wp_core.specs.IsSound.{IsSound, participants}
 use Rattle.wp_model.proofs.Keyed.{is_word_same, else_removed, still_there}
+use Rattle.wp_model.proofs.Tests.{neither}
 use Rattle.wp_core.proofs.OwnerMoves.{owners_apart, key_known, name_kept, direct_kept}
 use Rattle.wp_core.proofs.AllParticipants.{mine, each_apart}
-use Rattle.wp_core.proofs.LocksChange.{SoWith, actor_after, owners_after, LocksParts, pasts_left}
+use Rattle.wp_core.proofs.LocksChange.{SoWith, actor_after, owners_after, LocksParts, pasts_left, keys_still}
 use Rattle.wp_core.proofs.AllParts.{SoIn}
 use Rattle.wp_core.proofs.OtherOwners.{KeepsOthers, others_own, others_so}
 
@@ -29,7 +30,6 @@ pub record Drops (w : World) (name : List ℕ) (t : LockState) (step : Step) : T
   pub nobody : (c : List ℕ) → finite.get t.names name ≡ Some (Some c) → ⊥
   pub left : finite.get t.names name ≡ Some None → is_some (named w.writes.history name) ≡ true
   pub left_keys : (k : List ℕ) → finite.get t.names name ≡ Some None → finite.get t.keys k ≡ Some (Txn name) → is_changed (batch_of_name w.writes.history name) k ≡ true
-  pub transactions_were : (k n : List ℕ) → finite.get t.keys k ≡ Some (Txn n) → finite.get w.locks.keys k ≡ Some (Txn n)
   pub directs_were : (k c : List ℕ) → finite.get t.keys k ≡ Some (Client c) → finite.get w.locks.keys k ≡ Some (Client c)
   pub prepared_names : (q : ℕ) → is_undecided w.writes.history q ≡ true → is_some (finite.get t.names (name_at w.writes.history q)) ≡ true
   pub prepared_keys : (q : ℕ) (k : List ℕ) → is_undecided w.writes.history q ≡ true → is_changed (batch_at w.writes.history q) k ≡ true → finite.get t.keys k ≡ Some (Txn (name_at w.writes.history q))
@@ -83,7 +83,7 @@ module _ (w : World) (by : ℕ) (a : Actor) (name : List ℕ) (x0 : Transaction)
   keys_left : (k n : List ℕ) → finite.get t.names n ≡ Some None → finite.get t.keys k ≡ Some (Txn n) → is_changed (batch_of_name w.writes.history n) k ≡ true
   keys_left k n h held = ⊎_elim
       (λ (q : n ≡ name). ap (λ (z : List ℕ). is_changed (batch_of_name w.writes.history z) k) q ∙ d.left_keys k (ap (finite.get t.names) (sym q) ∙ h) (held ∙ ap (λ (z : List ℕ). Some (Txn z)) q))
-      (λ (ne : n ≡ name → ⊥). s.locks.keys_left k n (sym (d.others.names n ne) ∙ h) (d.transactions_were k n held)) (is_word_same n name)
+      (λ (ne : n ≡ name → ⊥). s.locks.keys_left k n (sym (d.others.names n ne) ∙ h) (d.others.were k n held)) (is_word_same n name)
 
   locked_part : AreLocked w.opened w.writes.history t after
   locked_part = record {
@@ -95,8 +95,9 @@ module _ (w : World) (by : ℕ) (a : Actor) (name : List ℕ) (x0 : Transaction)
     names_left = names_left;
     keys_left = keys_left;
     keys_live = d.live;
-    keys_known = λ k n h. key_known w.actors by a b at refl (λ m x has_it. (had_name m x has_it).1) k n (s.locks.keys_known k n (d.transactions_were k n h));
+    keys_known = λ k n h. key_known w.actors by a b at refl (λ m x has_it. (had_name m x has_it).1) k n (s.locks.keys_known k n (d.others.were k n h));
     keys_direct = λ k c h. direct_still k c (s.locks.keys_direct k c (d.directs_were k c h));
+    unchanged = λ k n q is h. s.locks.unchanged k n q is (d.others.were k n h);
   }
 
   owns_still : (n : List ℕ) → (n ≡ name → ⊥) → Owns a.participant n → Owns p n
@@ -107,10 +108,12 @@ module _ (w : World) (by : ℕ) (a : Actor) (name : List ℕ) (x0 : Transaction)
   mine_still (prior_values n q batch) left k = (owns_still n (d.ended n left) k.0, k.1, k.2)
   mine_still (unprepared n) left k = (owns_still n (d.ended n left) k.0, k.1, λ x c h. k.2 x c (had_name n x h).1)
   mine_still (direct_free c) left k = (k.0, d.others.directs c a.participant.client k.1, k.2)
+  mine_still (unchanged n c m) left k = ((k.0.0, has_still n k.0.0 (d.ended n (neither _ _ left).0) k.0.1, k.0.2), k.1, k.2)
+  mine_still (locks_stay n q keys) left k = (k.0, λ is. keys_still w.locks.keys t.keys n keys (λ c h. d.others.were c n h) (λ c h. d.others.prepared c n q is h) (k.1 is))
   mine_still fact left k = k
 
   were : (k : List ℕ) (holder : Holder) → finite.get t.keys k ≡ Some holder → finite.get w.locks.keys k ≡ Some holder
-  were k (Txn n) h = d.transactions_were k n h
+  were k (Txn n) h = d.others.were k n h
   were k (Client c) h = d.directs_were k c h
 
   pub dropped_parts : LocksParts w by a step p t

@@ -3,7 +3,7 @@ use Rattle.std.proofs.Common.{◌≡◌, ℕ, length, sym, subst}
 use mathlib.Core.Option.{some}
 use lib.ListN.{get_elem?}
 use Rattle.wp_core.specs.World.{Actor, World}
-use Rattle.wp_core.specs.Steps.{Step, load_published, register, begin_reading, load, end_reading, store_published, store_max_evicted, store_word, store_delayed_flag, store_old_flag, take_turn, give_turn, make_pending, log_pending, close_log, find_log_closed, drop_pending, write_segment, use_segment, stop_log, add_prepared, take_pending_prepared, add_delayed_commit, delay_pending, take_out, register_again, release, add_old_commit, add_versions, take_versions, move_versions, replace_versions, install, renew, halt, find_edit, claim_name, take_name, leave_name, free_transaction, lock_key, free_key, lock_direct, free_direct, find_holder, tell, hear, set_batch, note, make_note, make_seat, set_client, learn, join_seat}
+use Rattle.wp_core.specs.Steps.{Step, load_published, register, begin_reading, load, end_reading, store_published, store_max_evicted, store_word, store_delayed_flag, store_old_flag, take_turn, give_turn, make_pending, log_pending, close_log, find_log_closed, find_base, drop_pending, write_segment, use_segment, stop_log, add_prepared, take_pending_prepared, add_delayed_commit, delay_pending, take_out, register_again, release, add_old_commit, add_versions, take_versions, move_versions, replace_versions, install, renew, halt, find_edit, claim_name, take_name, leave_name, free_transaction, lock_key, free_key, lock_direct, free_direct, find_holder, tell, hear, set_batch, note, make_note, make_seat, set_client, learn, join_seat}
 use Rattle.wp_core.specs.Effects.{done}
 use Rattle.wp_core.specs.Needs.{Needs}
 use Rattle.wp_core.specs.Notes.{forgets}
@@ -21,7 +21,7 @@ use Rattle.wp_core.proofs.TakesTurn.{takes_turn}
 use Rattle.wp_core.proofs.KeepsGive.{gives}
 use Rattle.wp_core.proofs.PendingSteps.{makes_pending, logs_pending}
 use Rattle.wp_core.proofs.ClosesLog.{closes_log_by_fault, stops_log}
-use Rattle.wp_core.proofs.KeepsRemembered.{finds_log_closed, finds_edit, hears, finds_holder}
+use Rattle.wp_core.proofs.KeepsRemembered.{finds_log_closed, finds_base, finds_edit, hears, finds_holder}
 use Rattle.wp_core.proofs.DropsPending.{drops_pending}
 use Rattle.wp_core.proofs.WritesSegment.{writes_segment}
 use Rattle.wp_core.proofs.PendingPrepared.{adds_prepared, takes_pending_prepared}
@@ -65,6 +65,7 @@ kept w by a (make_pending entries) at needs s = makes_pending w by a entries at 
 kept w by a log_pending at needs s = logs_pending w by a at needs s
 kept w by a close_log at needs s = closes_log_by_fault w by a at needs s
 kept w by a find_log_closed at needs s = finds_log_closed w by a at needs s
+kept w by a find_base at needs s = finds_base w by a at needs s
 kept w by a drop_pending at needs s = drops_pending w by a at needs s
 kept w by a (write_segment place) at needs s = writes_segment w by a place at needs s
 kept w by a use_segment at needs s = uses_segment w by a at needs s

@@ -9,7 +9,7 @@ use Rattle.wp_model.specs.declared.holder.Holder.TheVariants.{Txn}
 use Rattle.wp_model.specs.LockState.{LockState}
 use Rattle.wp_core.specs.Lists.{IsIn}
 use Rattle.wp_core.specs.Entries.{batch_of_name}
-use Rattle.wp_core.specs.Views.{Event, claimed, took, Fact, undecided_at, prior_values, unprepared}
+use Rattle.wp_core.specs.Views.{Event, claimed, took, Fact, undecided_at, prior_values, unprepared, unchanged}
 use Rattle.wp_core.specs.World.{Transaction, Actor, Participant, World}
 use Rattle.wp_core.specs.Steps.{Step}
 use Rattle.wp_core.specs.Changes.{with_name}
@@ -141,6 +141,7 @@ module _ (w : World) (by : ℕ) (a : Actor) (name : List ℕ) (x1 : Transaction)
     keys_live = λ key n h. some_inserted w.locks.names name (Some a.participant.client) n (s.locks.keys_live key n h);
     keys_known = keys_known;
     keys_direct = λ key client h. direct_still key client (s.locks.keys_direct key client h);
+    unchanged = s.locks.unchanged;
   }
 
   -- ---- what is noted
@@ -156,6 +157,7 @@ module _ (w : World) (by : ℕ) (a : Actor) (name : List ℕ) (x1 : Transaction)
   mine_still (unprepared n) k =
       let o = owns_still n k.0 in
       (o.1, k.1, λ x key h held. k.2 x key (sym (else_inserted a.participant.transactions name x1 n o.0) ∙ h) held)
+  mine_still (unchanged n key m) k = ((k.0.0, else_inserted a.participant.transactions name x1 n (owns_still n (k.0.0, k.0.1)).0 ∙ k.0.1, k.0.2), k.1, k.2)
   mine_still fact k = k
 
   others_still : (q : Participant) (fact : Fact) → SoIn w q fact → SoWith w t q fact

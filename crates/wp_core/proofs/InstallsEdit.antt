@@ -8,7 +8,7 @@ use Rattle.wp_core.specs.Turns.{tables_turn}
 use Rattle.wp_core.specs.States.{Installed}
 use Rattle.wp_model.specs.Flushed.{InstalledEdit}
 use Rattle.wp_model.specs.declared.segment.Segment.{Segment}
-use Rattle.wp_core.specs.Views.{Event, log_failed, log_stopped, tables_failed, stopped, Fact, nothing_flushed}
+use Rattle.wp_core.specs.Views.{Event, log_failed, log_stopped, tables_failed, stopped, based_at, Fact, nothing_flushed}
 use Rattle.wp_core.specs.Views as event
 use Rattle.wp_core.specs.World.{Actor, Participant, World}
 use Rattle.wp_core.specs.Steps.{install, halt}
@@ -20,7 +20,7 @@ use Rattle.wp_core.specs.Sound.Pasts.{IsPast, closes_log, is_tables_fault, AreFa
 use Rattle.wp_core.specs.Sound.Segments.{AreCoupled}
 use Rattle.wp_core.specs.IsSound.{IsSound}
 use Rattle.wp_core.proofs.PastsGrow.{done_last, past_last, past_before, times_more}
-use Rattle.wp_core.proofs.Remembers.{installed_still, placed_still, faults_more, edits_grown}
+use Rattle.wp_core.proofs.Remembers.{bases_still, installed_still, placed_still, faults_more, edits_grown}
 use Rattle.wp_core.proofs.TablesChange.{SoInstalled, actor_after, pasts_after, tables_change}
 use Rattle.wp_core.proofs.AllParts.{SoIn}
 use Rattle.wp_core.proofs.Quiet.{Stays, stays_not}
@@ -54,7 +54,7 @@ module _ (w : World) (by : ℕ) (a : Actor) (edit : InstalledEdit) (compacts : B
   after = pasts_after w by a (install edit compacts) e t
 
   faults_installed : AreFaults w.writes w.installed.halted after
-  faults_installed = faults_more w.actors by a c e at refl refl w.writes w.installed.halted refl refl (λ n q. absurd cc) s.faults
+  faults_installed = faults_more w.actors by a c e at refl refl w.writes w.installed.halted refl refl (λ n q. absurd cc) (λ n base q. absurd cc) (λ x q. absurd cc) s.faults
 
   -- no install failed before
   coupled_installed : AreCoupled w.writes t w.holders.write
@@ -92,6 +92,9 @@ module _ (w : World) (by : ℕ) (a : Actor) (edit : InstalledEdit) (compacts : B
     placed = subst (λ (x : Segment). WasPlaced w.first_edit after x) (sym n.6) (placed_still w.actors by a c e at refl refl w.first_edit w.installed.last.segment s.edits.placed);
     rises = n.5;
     new = raised compacts;
+    based = λ n base q. absurd cc;
+    base_rises = let segment = ap (λ (x : Segment). x.base) n.6 in omega (arith, segment);
+    renews = λ x q. absurd cc;
     found = λ n base tables due halted q. absurd cc;
     its_edit = λ same. sym (last_more w.first_edit a.participant.past e);
     their_edit = λ j i past apart same. inr (e, refl, by_other j i apart);
@@ -167,7 +170,10 @@ module _ (w : World) (by : ℕ) (a : Actor) (edit : Option InstalledEdit) (at : 
         tables = m ∙ (ap (λ (z : ℕ). z + 1) y ∙ sym (ap one_if (is_halted w.installed edit)));
         not_logged = s.faults.not_logged;
         stopped = λ n h. ⊎_elim (λ k. s.faults.stopped n k) (λ (q : failure ≡ stopped n). absurd cc) (past_before w.actors by a b failure at refl refl (stopped n) h);
+        based = λ n base h. bases_still w.actors by a b failure at refl refl w.writes (λ x q. absurd cc) n base
+            (⊎_elim (λ k. s.faults.based n base k) (λ (q : failure ≡ based_at n base). absurd cc) (past_before w.actors by a b failure at refl refl (based_at n base) h));
         failed = λ entries h. ⊎_elim (λ k. s.faults.failed entries k) (λ (q : failure ≡ log_failed entries). absurd cc) (past_before w.actors by a b failure at refl refl (log_failed entries) h);
+        renewing = s.faults.renewing;
         of_log = λ entries h. ⊎_elim (λ k. s.faults.of_log entries k) (λ (q : failure ≡ log_failed entries). absurd cc) (past_before w.actors by a b failure at refl refl (log_failed entries) h);
         behind = λ h. is_halted w.installed edit;
         unfailed = λ h. ⊎_elim (λ k. s.faults.unfailed k) (λ (q : failure ≡ log_stopped). absurd cc) (past_before w.actors by a b failure at refl refl log_stopped h);
@@ -187,6 +193,9 @@ module _ (w : World) (by : ℕ) (a : Actor) (edit : Option InstalledEdit) (at : 
       edits_grown w.actors by a b failure at refl refl w.first_edit w.installed u record {
         rises = let flushed = ap (λ (z : InstalledEdit). z.flushed) same in omega (arith, flushed);
         new = λ x q. absurd cc;
+        based = λ n base q. absurd cc;
+        base_rises = let base = ap (λ (z : InstalledEdit). z.segment.base) same in omega (arith, base);
+        renews = λ x q. absurd cc;
         last = subst (λ (z : InstalledEdit). WasInstalled w.first_edit then z.flushed) (sym same) (installed_still w.actors by a b failure at refl refl w.first_edit w.installed.last.flushed s.edits.last);
         placed = subst (λ (z : InstalledEdit). WasPlaced w.first_edit then z.segment) (sym same) (placed_still w.actors by a b failure at refl refl w.first_edit w.installed.last.segment s.edits.placed);
         found = λ n base tables due halted q. absurd cc;

@@ -8,7 +8,7 @@ use Rattle.std.specs.FinMap.{get-empty}
 use Rattle.wp_model.specs.declared.change.Change.{Change}
 use Rattle.wp_model.specs.Batch.{key_cmp}
 use Rattle.wp_model.specs.declared.holder.Holder.TheVariants.{Client}
-use Rattle.wp_core.specs.Views.{Fact, undecided_at, prior_values, unprepared, direct_free}
+use Rattle.wp_core.specs.Views.{Fact, undecided_at, prior_values, unprepared, direct_free, unchanged}
 use Rattle.wp_core.specs.World.{Transaction, Actor, Participant, World}
 use Rattle.wp_core.specs.Steps.{set_batch}
 use Rattle.wp_core.specs.Effects.{done}
@@ -31,6 +31,7 @@ module _ (w : World) (a p : Participant) (is : IsSameOwner (owner_of a) (owner_o
   so_same (prior_values name q batch) k = (owns_still name k.0, k.1, k.2)
   so_same (unprepared name) k = (owns_still name k.0, k.1, λ x key h held. let y = is.had name x h in k.2 y.0 key y.1 (subst (λ (z : words.FinSet key_cmp). words.contains z key ≡ true) (sym y.2) held))
   so_same (direct_free key) k = (is.direct ∙ k.0, k.1 ∙ ap (λ (c : List ℕ). Some (Client c)) (sym is.client), k.2)
+  so_same (unchanged name key n) k = let x = is.has name k.0.0 k.0.1 in ((x.0, x.1, subst (λ (z : words.FinSet key_cmp). words.contains z key ≡ true) (sym x.2) k.0.2), k.1, k.2)
   so_same fact k = k
 
 module _ (a : Participant) (name : List ℕ) (t : Transaction) (batch : List Change) (has : finite.get a.transactions name ≡ Some t) where

@@ -7,7 +7,7 @@ use Rattle.wp_model.specs.History.{name_at}
 use Rattle.wp_model.specs.declared.holder.Holder.{Holder}
 use Rattle.wp_model.specs.declared.holder.Holder.TheVariants.{Txn, Client}
 use Rattle.wp_model.specs.LockState.{LockState}
-use Rattle.wp_core.specs.Views.{Fact, undecided_at, direct_free}
+use Rattle.wp_core.specs.Views.{Fact, undecided_at, direct_free, locks_stay}
 use Rattle.wp_core.specs.World.{Actor, Participant, World}
 use Rattle.wp_core.specs.Steps.{free_direct}
 use Rattle.wp_core.specs.Changes.{without_key}
@@ -16,11 +16,12 @@ use Rattle.wp_core.specs.Needs.{Needs}
 use Rattle.wp_core.specs.Notes.{forgets, ends}
 use Rattle.wp_core.specs.Sound.Actors.{IsParticipantAt}
 use Rattle.wp_core.specs.Sound.Locks.{Owner, owner_of, IsNameOf, IsDirectOf, IsOwner, AreLocked}
+use Rattle.wp_core.specs.Sound.Views.{AreKeysOf}
 use Rattle.wp_core.specs.IsSound.{IsSound, participants}
 use Rattle.wp_model.proofs.Keyed.{is_word_same, else_removed, still_there}
 use Rattle.wp_core.proofs.OwnerMoves.{owners_apart, key_known, name_kept, direct_kept}
 use Rattle.wp_core.proofs.AllParticipants.{mine, each_apart}
-use Rattle.wp_core.proofs.LocksChange.{SoWith, actor_after, owners_after, LocksParts, locks_change, pasts_left}
+use Rattle.wp_core.proofs.LocksChange.{SoWith, actor_after, owners_after, LocksParts, locks_change, pasts_left, keys_still}
 use Rattle.wp_core.proofs.AllParts.{SoIn}
 
 module _ (w : World) (by : ℕ) (a : Actor) (key : List ℕ) (at : get_elem? w.actors by ≡ some a) (has : a.participant.direct ≡ Some key) (s : IsSound w) where
@@ -94,16 +95,22 @@ module _ (w : World) (by : ℕ) (a : Actor) (key : List ℕ) (at : get_elem? w.a
     keys_live = λ k n h. s.locks.keys_live k n (held_before k (Txn n) h).1;
     keys_known = λ k n h. key_known w.actors by a b at refl (λ m x has. has) k n (s.locks.keys_known k n (held_before k (Txn n) h).1);
     keys_direct = λ k c h. let u = held_before k (Client c) h in direct_still k c u.0 (s.locks.keys_direct k c u.1);
+    unchanged = λ k n q is h. s.locks.unchanged k n q is (held_before k (Txn n) h).1;
   }
+
+  same_keys : (n : List ℕ) (keys : List (List ℕ)) → AreKeysOf w.locks.keys n keys → AreKeysOf t.keys n keys
+  same_keys n keys k = keys_still w.locks.keys t.keys n keys (λ c h. (held_before c (Txn n) h).1) (λ c h. txn_still c n h) k
 
   mine_still : (fact : Fact) → not (ends w.writes.history (length w.cache) (free_direct key) fact) ≡ true → SoIn w a.participant fact → SoWith w t p fact
   mine_still (undecided_at n q) left k = (k.0, k.1, k.2, λ c h. txn_still c n (k.3 c h))
   mine_still (direct_free c) left k = absurd (true≢false (sym left))
+  mine_still (locks_stay n q keys) left k = (k.0, λ is. same_keys n keys (k.1 is))
   mine_still fact left k = k
 
   others_still : (j : ℕ) (q : Participant) (fact : Fact) → j ≢ by → IsParticipantAt (participants owner_of w) j 0 (owner_of q) → SoIn w q fact → SoWith w t q fact
   others_still j q (undecided_at n m) ne there k = (k.0, k.1, k.2, λ c h. txn_still c n (k.3 c h))
   others_still j q (direct_free c) ne there k = (k.0, else_removed w.locks.keys key c (not_theirs j 0 (owner_of q) c (inl ne) there k.0) ∙ k.1, k.2)
+  others_still j q (locks_stay n m keys) ne there k = (k.0, λ is. same_keys n keys (k.1 is))
   others_still j q fact ne there k = k
 
   parts : LocksParts w by a (free_direct key) p t

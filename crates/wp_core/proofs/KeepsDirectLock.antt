@@ -3,11 +3,11 @@ use Rattle.std.proofs.Common.{◌≡◌, ⊎_elim, inl, inr, ℕ, List, [], ◌�
 use mathlib.Core.Option.{some}
 use lib.ListN.{get_elem?}
 use Rattle.std.specs.FinMap as finite
-use Rattle.wp_model.specs.History.{name_at}
+use Rattle.wp_model.specs.History.{name_at, named}
 use Rattle.wp_model.specs.declared.holder.Holder.TheVariants.{Txn, Client}
 use Rattle.wp_model.specs.LockState.{LockState}
 use Rattle.wp_core.specs.Lists.{IsIn}
-use Rattle.wp_core.specs.Views.{Event, locked, Fact, undecided_at, direct_free}
+use Rattle.wp_core.specs.Views.{Event, locked, Fact, undecided_at, direct_free, locks_stay}
 use Rattle.wp_core.specs.World.{Actor, Participant, World}
 use Rattle.wp_core.specs.Steps.{lock_direct}
 use Rattle.wp_core.specs.Changes.{with_key}
@@ -23,7 +23,7 @@ use Rattle.wp_core.proofs.AllParticipants.{mine, mine_now, each_apart}
 use Rattle.wp_core.proofs.PastsGrow.{in_front, in_last}
 use Rattle.wp_core.proofs.LocksChange.{SoWith, actor_after, owners_after, LocksParts, locks_change}
 use Rattle.wp_core.proofs.AllParts.{SoIn}
-use Rattle.wp_core.proofs.KeyLocked.{held_still, held_now, owner_locked, so_locked, pasts_locked}
+use Rattle.wp_core.proofs.KeyLocked.{held_still, held_now, owner_locked, keys_locked, so_locked, pasts_locked}
 use Rattle.wp_model.proofs.Tests.{same_some}
 
 module _ (w : World) (by : ℕ) (a : Actor) (key : List ℕ) (at : get_elem? w.actors by ≡ some a) (no_direct : a.participant.direct ≡ None) (free : finite.get w.locks.keys key ≡ None) (s : IsSound w) where
@@ -88,11 +88,17 @@ module _ (w : World) (by : ℕ) (a : Actor) (key : List ℕ) (at : get_elem? w.a
     keys_live = λ k n h. s.locks.keys_live k n (txn_held k n h);
     keys_known = λ k n h. key_known w.actors by a b at refl (λ m x has. has) k n (s.locks.keys_known k n (txn_held k n h));
     keys_direct = direct_held;
+    unchanged = λ k n q is h. s.locks.unchanged k n q is (txn_held k n h);
   }
+
+  -- a client is no transaction
+  other : (n : List ℕ) (q : ℕ) → named w.writes.history n ≡ Some q → Client client ≡ Txn n → ⊥
+  other n q is e = absurd cc
 
   mine_still : (fact : Fact) → SoIn w a.participant fact → SoWith w t p fact
   mine_still (undecided_at n q) k = (k.0, k.1, k.2, λ c h. held_still w key (Client client) free c (Txn n) (k.3 c h))
   mine_still (direct_free c) k = let f : None ≡ Some c = sym no_direct ∙ k.0 in absurd cc
+  mine_still (locks_stay n q keys) k = (k.0, λ is. keys_locked w key (Client client) free other n q keys is (k.1 is))
   mine_still fact k = k
 
   parts : LocksParts w by a (lock_direct key) p t
@@ -100,7 +106,7 @@ module _ (w : World) (by : ℕ) (a : Actor) (key : List ℕ) (at : get_elem? w.a
     locks_part = locked_part;
     pasts_part = pasts_locked w key (Client client) free by a (lock_direct key) p at refl s;
     mine = λ fact left k. mine_still fact k;
-    others = λ j q fact ne there k. so_locked w key (Client client) free q fact k;
+    others = λ j q fact ne there k. so_locked w key (Client client) free other q fact k;
   }
 
 pub locks_direct : (w : World) (by : ℕ) (a : Actor) (key : List ℕ) → get_elem? w.actors by ≡ some a → Needs w by a (lock_direct key) → IsSound w

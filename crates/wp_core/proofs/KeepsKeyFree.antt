@@ -12,13 +12,13 @@ use Rattle.wp_model.specs.History.{is_undecided, is_changed, name_at, batch_at, 
 use Rattle.wp_model.specs.declared.holder.Holder.{Holder}
 use Rattle.wp_model.specs.declared.holder.Holder.TheVariants.{Txn, Client}
 use Rattle.wp_model.specs.LockState.{LockState}
-use Rattle.wp_core.specs.Views.{Fact, undecided_at, prior_values, unprepared, direct_free}
+use Rattle.wp_core.specs.Views.{Fact, undecided_at, prior_values, unprepared, direct_free, unchanged, locks_stay}
 use Rattle.wp_core.specs.World.{Transaction, Actor, Participant, World}
 use Rattle.wp_core.specs.Steps.{free_key}
 use Rattle.wp_core.specs.Changes.{without_key}
 use Rattle.wp_core.specs.Effects.{done}
 use Rattle.wp_core.specs.Needs.{Needs}
-use Rattle.wp_core.specs.Notes.{forgets}
+use Rattle.wp_core.specs.Notes.{forgets, ends}
 use Rattle.wp_core.specs.Sound.Actors.{IsParticipantAt}
 use Rattle.wp_core.specs.Sound.Locks.{Owner, owner_of, Has, IsNameOf, IsDirectOf, CameToKey, IsOwner, AreLocked}
 use Rattle.wp_core.specs.IsSound.{IsSound, participants}
@@ -26,9 +26,10 @@ use Rattle.wp_model.proofs.Keyed.{same_test, is_word_same, not_same, else_remove
 use Rattle.wp_core.proofs.OwnerMoves.{owners_apart, name_kept, direct_kept}
 use Rattle.wp_core.proofs.AllParticipants.{mine, was, each_apart}
 use Rattle.wp_history_laws.proofs.Named.{none_named}
-use Rattle.wp_core.proofs.LocksChange.{SoWith, actor_after, owners_after, LocksParts, locks_change, pasts_left}
+use Rattle.wp_core.proofs.LocksChange.{SoWith, actor_after, owners_after, LocksParts, locks_change, pasts_left, keys_still}
 use Rattle.wp_core.proofs.AllParts.{SoIn}
-use Rattle.wp_core.proofs.OtherKeys.{has_now, had_name, has_still, owns_still, each_key, unprepared_still}
+use Rattle.wp_core.proofs.OtherKeys.{has_now, had_name, has_still, owns_still, owns_key_still, each_key, unprepared_still}
+use Rattle.wp_core.proofs.KeepsNameLeft.{two_names}
 use Rattle.wp_core.proofs.OtherOwners.{KeepsOthers, others_own, others_so}
 
 -- ---- sets of keys
@@ -83,8 +84,12 @@ module _ (w : World) (by : ℕ) (a : Actor) (name : List ℕ) (x0 : Transaction)
   held_before : (k : List ℕ) (holder : Holder) → finite.get t.keys k ≡ Some holder → (k ≡ key → ⊥) × (finite.get w.locks.keys k ≡ Some holder)
   held_before k holder h = still_there w.locks.keys key holder k h
 
+  -- an undecided prepare has another name
+  other_name : (n : List ℕ) (q : ℕ) → named w.writes.history n ≡ Some q → n ≡ name → ⊥
+  other_name n q h same = let f : None ≡ Some q = sym unprepared_one ∙ ap (named w.writes.history) (sym same) ∙ h in absurd cc
+
   keeps_others : KeepsOthers w name t
-  keeps_others = record { names = λ n ne. refl; transactions = txn_still; directs = direct_held }
+  keeps_others = record { names = λ n ne. refl; transactions = txn_still; prepared = λ k n q is h. txn_still k n (other_name n q is) h; directs = direct_held; were = λ k n h. (held_before k (Txn n) h).1 }
 
   own_owner : IsOwner w.opened w.writes.history t (owner_of p)
   own_owner =
@@ -128,24 +133,23 @@ module _ (w : World) (by : ℕ) (a : Actor) (name : List ℕ) (x0 : Transaction)
     keys_live = λ k n h. s.locks.keys_live k n (held_before k (Txn n) h).1;
     keys_known = keys_known;
     keys_direct = λ k c h. direct_still k c (s.locks.keys_direct k c (held_before k (Client c) h).1);
+    unchanged = λ k n q is h. s.locks.unchanged k n q is (held_before k (Txn n) h).1;
   }
 
-  -- an undecided prepare has another name
-  other_name : (n : List ℕ) (q : ℕ) → named w.writes.history n ≡ Some q → n ≡ name → ⊥
-  other_name n q h same = let f : None ≡ Some q = sym unprepared_one ∙ ap (named w.writes.history) (sym same) ∙ h in absurd cc
-
-  mine_still : (fact : Fact) → SoIn w a.participant fact → SoWith w t p fact
-  mine_still (undecided_at n q) k = (owns_still w by a name x0 x1 at has n k.0, k.1, k.2, λ c h. txn_still c n (other_name n q k.1) (k.3 c h))
-  mine_still (prior_values n q batch) k = (owns_still w by a name x0 x1 at has n k.0, k.1, k.2)
-  mine_still (unprepared n) k = (owns_still w by a name x0 x1 at has n k.0, k.1, unprepared_still w by a name x0 x1 at has (λ c held. inl (was_in x0.locked key c held).1) n k.2)
-  mine_still (direct_free c) k = (k.0, direct_held c client k.1, k.2)
-  mine_still fact k = k
+  mine_still : (fact : Fact) → not (ends w.writes.history (length w.cache) (free_key name x0 key) fact) ≡ true → SoIn w a.participant fact → SoWith w t p fact
+  mine_still (undecided_at n q) left k = (owns_still w by a name x0 x1 at has n k.0, k.1, k.2, λ c h. txn_still c n (other_name n q k.1) (k.3 c h))
+  mine_still (prior_values n q batch) left k = (owns_still w by a name x0 x1 at has n k.0, k.1, k.2)
+  mine_still (unprepared n) left k = (owns_still w by a name x0 x1 at has n k.0, k.1, unprepared_still w by a name x0 x1 at has (λ c held. inl (was_in x0.locked key c held).1) n k.2)
+  mine_still (direct_free c) left k = (k.0, direct_held c client k.1, k.2)
+  mine_still (unchanged n c m) left k = (owns_key_still w by a name x0 x1 at has n c (still_in x0.locked key c (two_names key c left)) k.0, k.1, k.2)
+  mine_still (locks_stay n q keys) left k = (k.0, λ is. keys_still w.locks.keys t.keys n keys (λ c h. (held_before c (Txn n) h).1) (λ c h. txn_still c n (other_name n q is) h) (k.1 is))
+  mine_still fact left k = k
 
   parts : LocksParts w by a (free_key name x0 key) p t
   parts = record {
     locks_part = locked_part;
     pasts_part = pasts_left w by a (free_key name x0 key) p t at refl refl (λ n live. live) (λ c holder h. (held_before c holder h).1) s;
-    mine = λ fact left k. mine_still fact k;
+    mine = mine_still;
     others = others_so w by a name x0 at has s t keeps_others;
   }
 

@@ -8,13 +8,14 @@ use Rattle.std.specs.FinMap as finite
 use Rattle.std.specs.Ordering.{eq_by_cmp}
 use Rattle.std.proofs.lemmas.Cmp.{nat_list_cmp_total}
 use Rattle.wp_model.specs.Batch.{key_cmp}
-use Rattle.wp_model.specs.History.{holder_of, name_at, is_changed}
+use Rattle.wp_model.specs.Changed.{IsUnchanged}
+use Rattle.wp_model.specs.History.{holder_of, name_at, named, is_changed}
 use Rattle.wp_model.specs.declared.holder.Holder.TheVariants.{Txn, Client}
 use Rattle.wp_model.specs.LockState.{LockState}
 use Rattle.wp_model.proofs.Found.{found_holder}
 use Rattle.wp_core.specs.Entries.{batch_of_name}
 use Rattle.wp_core.specs.Lists.{IsIn}
-use Rattle.wp_core.specs.Views.{Event, locked, Fact, undecided_at, prior_values, unprepared, direct_free}
+use Rattle.wp_core.specs.Views.{Event, locked, Fact, undecided_at, prior_values, unprepared, direct_free, unchanged, locks_stay}
 use Rattle.wp_core.specs.World.{Transaction, Actor, Participant, World}
 use Rattle.wp_core.specs.Steps.{lock_key}
 use Rattle.wp_core.specs.Changes.{with_key}
@@ -30,9 +31,9 @@ use Rattle.wp_core.proofs.AllParticipants.{mine, was_apart, each_apart}
 use Rattle.wp_core.proofs.PastsGrow.{in_front, in_last}
 use Rattle.wp_core.proofs.LocksChange.{SoWith, actor_after, owners_after, LocksParts, locks_change}
 use Rattle.wp_core.proofs.AllParts.{SoIn}
-use Rattle.wp_core.proofs.KeyLocked.{held_still, held_now, owner_locked, so_locked, pasts_locked}
-use Rattle.wp_core.proofs.OtherKeys.{has_now, had_name, has_still, owns_still, each_key, unprepared_still}
-use Rattle.wp_model.proofs.Tests.{or_true}
+use Rattle.wp_core.proofs.KeyLocked.{held_still, held_now, owner_locked, keys_locked, so_locked, pasts_locked}
+use Rattle.wp_core.proofs.OtherKeys.{has_now, had_name, has_still, owns_still, owns_key_still, each_key, unprepared_still}
+use Rattle.wp_model.proofs.Tests.{or_true, none_some}
 use Rattle.wp_core.proofs.OtherOwners.{nobody_else}
 
 -- ---- sets of keys
@@ -48,7 +49,7 @@ was_in s key k ne h = sym (ap (λ (b : Bool). b || words.contains s k) (not_same
 
 -- ---- the step
 
-module _ (w : World) (by : ℕ) (a : Actor) (name : List ℕ) (x0 : Transaction) (key : List ℕ) (at : get_elem? w.actors by ≡ some a) (has : finite.get a.participant.transactions name ≡ Some x0) (free : finite.get w.locks.keys key ≡ None) (s : IsSound w) where
+module _ (w : World) (by : ℕ) (a : Actor) (name : List ℕ) (x0 : Transaction) (key : List ℕ) (at : get_elem? w.actors by ≡ some a) (has : finite.get a.participant.transactions name ≡ Some x0) (free : finite.get w.locks.keys key ≡ None) (unprepared_one : named w.writes.history name ≡ None) (s : IsSound w) where
   abbrev e : Event
   e = locked key (Txn name)
 
@@ -127,6 +128,15 @@ module _ (w : World) (by : ℕ) (a : Actor) (name : List ℕ) (x0 : Transaction)
       let f : Some (Some a.participant.client) ≡ Some None = sym had ∙ (ap (finite.get w.locks.names) same ∙ left) in absurd cc)
       (λ (g : (k ≡ key → ⊥) × (finite.get w.locks.keys k ≡ Some (Txn n))). s.locks.keys_left k n left g.1) (held_now w key (Txn name) free k (Txn n) h)
 
+  -- a prepared transaction is another one
+  other : (n : List ℕ) (q : ℕ) → named w.writes.history n ≡ Some q → Txn name ≡ Txn n → ⊥
+  other n q is e = let same : name ≡ n = cc in none_some (named w.writes.history name) q unprepared_one (ap (named w.writes.history) same ∙ is)
+
+  unchanged_still : (k n : List ℕ) (q : ℕ) → named w.writes.history n ≡ Some q → finite.get t.keys k ≡ Some (Txn n) → IsUnchanged w.writes.history k q
+  unchanged_still k n q is h = ⊎_elim
+      (λ (g : (k ≡ key) × (Txn name ≡ Txn n)). absurd (other n q is g.1))
+      (λ (g : (k ≡ key → ⊥) × (finite.get w.locks.keys k ≡ Some (Txn n))). s.locks.unchanged k n q is g.1) (held_now w key (Txn name) free k (Txn n) h)
+
   keys_direct : (k c : List ℕ) → finite.get t.keys k ≡ Some (Client c) → IsDirectOf after k c
   keys_direct k c h = ⊎_elim
       (λ (g : (k ≡ key) × (Txn name ≡ Client c)). let f = g.1 in absurd cc)
@@ -144,6 +154,7 @@ module _ (w : World) (by : ℕ) (a : Actor) (name : List ℕ) (x0 : Transaction)
     keys_live = keys_live;
     keys_known = keys_known;
     keys_direct = keys_direct;
+    unchanged = unchanged_still;
   }
 
   -- no undecided prepare changes the key
@@ -162,6 +173,8 @@ module _ (w : World) (by : ℕ) (a : Actor) (name : List ℕ) (x0 : Transaction)
   mine_still (prior_values n q batch) k = (owns_still w by a name x0 x1 at has n k.0, k.1, k.2)
   mine_still (unprepared n) k = (owns_still w by a name x0 x1 at has n k.0, k.1, unprepared_still w by a name x0 x1 at has was_or_free n k.2)
   mine_still (direct_free c) k = (k.0, held_still w key (Txn name) free c (Client a.participant.client) k.1, k.2)
+  mine_still (unchanged n c m) k = (owns_key_still w by a name x0 x1 at has n c (still_in x0.locked key c) k.0, k.1, k.2)
+  mine_still (locks_stay n q keys) k = (k.0, λ is. keys_locked w key (Txn name) free other n q keys is (k.1 is))
   mine_still fact k = k
 
   parts : LocksParts w by a (lock_key name x0 key) p t
@@ -169,9 +182,9 @@ module _ (w : World) (by : ℕ) (a : Actor) (name : List ℕ) (x0 : Transaction)
     locks_part = locked_part;
     pasts_part = pasts_locked w key (Txn name) free by a (lock_key name x0 key) p at refl s;
     mine = λ fact left k. mine_still fact k;
-    others = λ j q fact ne there k. so_locked w key (Txn name) free q fact k;
+    others = λ j q fact ne there k. so_locked w key (Txn name) free other q fact k;
   }
 
 pub locks_key : (w : World) (by : ℕ) (a : Actor) (name : List ℕ) (x0 : Transaction) (key : List ℕ) → get_elem? w.actors by ≡ some a → Needs w by a (lock_key name x0 key) → IsSound w
     → IsSound (done w by (forgets w.writes.history (length w.cache) (lock_key name x0 key) a) (lock_key name x0 key))
-locks_key w by a name x0 key at needs s = locks_change w by a (lock_key name x0 key) (p w by a name x0 key at needs.1 needs.2 s) (t w by a name x0 key at needs.1 needs.2 s) at needs.0 (parts w by a name x0 key at needs.1 needs.2 s) s
+locks_key w by a name x0 key at needs s = locks_change w by a (lock_key name x0 key) (p w by a name x0 key at needs.1 needs.2 needs.3 s) (t w by a name x0 key at needs.1 needs.2 needs.3 s) at needs.0 (parts w by a name x0 key at needs.1 needs.2 needs.3 s) s

@@ -21,6 +21,7 @@ use Rattle.wp_core.specs.Needs.{Needs}
 use Rattle.wp_core.specs.Notes.{forgets}
 use Rattle.wp_core.specs.IsSound.{IsSound}
 use Rattle.wp_model.proofs.Keyed.{is_word_same, at_removed, else_removed}
+use Rattle.wp_model.proofs.Tests.{none_some}
 use Rattle.wp_history_laws.proofs.Named.{none_named}
 use Rattle.wp_core.proofs.LocksChange.{locks_change}
 use Rattle.wp_core.proofs.DropsTransaction.{Drops, p, dropped_parts}
@@ -75,11 +76,10 @@ module _ (w : World) (by : ℕ) (a : Actor) (name : List ℕ) (x0 : Transaction)
   freed_one : Drops w name t (free_transaction name)
   freed_one = record {
     labels = refl;
-    others = record { names = λ n ne. else_removed w.locks.names name n ne; transactions = transactions; directs = directs };
+    others = record { names = λ n ne. else_removed w.locks.names name n ne; transactions = transactions; prepared = λ k n q is h. transactions k n (λ same. none_some (named w.writes.history name) q unprepared (ap (named w.writes.history) (sym same) ∙ is)) h; directs = directs; were = λ k n h. were k (Txn n) h };
     nobody = λ c h. let f : None ≡ Some (Some c) = sym (at_removed w.locks.names name name refl) ∙ h in absurd cc;
     left = λ h. let f : None ≡ Some None = sym (at_removed w.locks.names name name refl) ∙ h in absurd cc;
     left_keys = λ k h held. absurd (for_another k name held refl);
-    transactions_were = λ k n h. were k (Txn n) h;
     directs_were = λ k c h. were k (Client c) h;
     prepared_names = λ q u. ap is_some (else_removed w.locks.names name (name_at w.writes.history q) (λ same. none_named w.writes.history name q unprepared u same)) ∙ s.locks.prepared_names q u;
     prepared_keys = λ q k u h. transactions k (name_at w.writes.history q) (λ same. none_named w.writes.history name q unprepared u same) (s.locks.prepared_keys q k u h);

@@ -41,11 +41,10 @@ module _ (w : World) (by : ℕ) (a : Actor) (name : List ℕ) (x0 : Transaction)
   left_one : Drops w name t (leave_name name)
   left_one = record {
     labels = refl;
-    others = record { names = λ n ne. else_inserted w.locks.names name None n ne; transactions = λ k n ne h. h; directs = λ k c h. h };
+    others = record { names = λ n ne. else_inserted w.locks.names name None n ne; transactions = λ k n ne h. h; prepared = λ k n q is h. h; directs = λ k c h. h; were = λ k n h. h };
     nobody = λ c h. let f : Some None ≡ Some (Some c) = sym (at_inserted w.locks.names name None name refl) ∙ h in absurd cc;
     left = λ h. prepared;
     left_keys = λ k h held. batch_has k (s.locks.keys_known k name held by 0 (owner_of a.participant) (mine owner_of w.actors by a a at refl) x0 has);
-    transactions_were = λ k n h. h;
     directs_were = λ k c h. h;
     prepared_names = λ q u. some_inserted w.locks.names name None (name_at w.writes.history q) (s.locks.prepared_names q u);
     prepared_keys = s.locks.prepared_keys;

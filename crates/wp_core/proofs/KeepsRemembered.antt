@@ -1,19 +1,20 @@
 -- An actor that only remembers what it found keeps every part of a sound world.
-use Rattle.std.proofs.Common.{◌≡◌, ⊎_elim, inl, inr, ℕ, ◌≤◌, ◌<◌, true, false, List, [], ◌∷◌, ◌++◌, length, length-append, zero, suc, map, set, refl, sym, subst, ap, ◌∙◌, arith, Option, Some, None, is_some, unwrap_or, take}
+use Rattle.std.proofs.Common.{◌≡◌, ⊎_elim, inl, inr, ℕ, ◌≤◌, ◌<◌, true, false, List, [], ◌∷◌, ◌++◌, length, length-append, zero, suc, map, set, refl, sym, true≢false, subst, ap, ◌∙◌, arith, Option, Some, None, is_some, unwrap_or, take}
 use Rattle.std.proofs.Math.Seq.{take-length}
 use mathlib.Core.Option.{some, some-injective, some-ne-none}
 use lib.ListN.{get_elem?}
 use Rattle.std.specs.FinMap as finite
 use Rattle.wp_model.specs.declared.entry.Entry.{Entry}
+use Rattle.wp_model.specs.declared.segment.Segment.{Segment}
 use Rattle.wp_model.specs.History.{named, batch_at, is_changed}
 use Rattle.wp_model.specs.declared.holder.Holder.{Holder}
 use Rattle.wp_model.specs.declared.holder.Holder.TheVariants.{Txn, Client}
 use Rattle.wp_core.specs.Lists.{IsIn}
 use Rattle.wp_core.specs.Turns.{write_turn, locks_turn, tables_turn}
-use Rattle.wp_core.specs.Views.{Account, own, another, prepare_at, Event, claimed, took, locked, told, heard, stopped, found_edit, found, Fact}
+use Rattle.wp_core.specs.Views.{Account, own, another, prepare_at, Event, claimed, took, locked, told, heard, renewed, stopped, based_at, found_edit, found, Fact}
 use Rattle.wp_core.specs.World.{Transaction, Actor, Participant, World, content_of}
 use Rattle.wp_core.specs.World as world
-use Rattle.wp_core.specs.Steps.{Step, find_log_closed, find_edit, find_holder, hear}
+use Rattle.wp_core.specs.Steps.{Step, find_log_closed, find_base, find_edit, find_holder, hear}
 use Rattle.wp_core.specs.Changes.{with_actor, remembers}
 use Rattle.wp_core.specs.Effects.{done}
 use Rattle.wp_core.specs.Needs.{Needs}
@@ -21,14 +22,14 @@ use Rattle.wp_core.specs.Conditions.{Accounts, IsHolder, IsSelf}
 use Rattle.wp_core.specs.Notes.{forgets}
 use Rattle.wp_core.specs.Sound.Actors.{seen_of, participants_of, IsParticipantAt}
 use Rattle.wp_core.specs.Sound.Locks.{Owner, owner_of, Has, HasKeyAt, PrepareHas}
-use Rattle.wp_core.specs.Sound.Pasts.{past_of, IsPast, HasDone, HasBegun, MadeHolder, IsAccounted, WasInstalled, WasBased, tables_due, OtherCompacts}
+use Rattle.wp_core.specs.Sound.Pasts.{past_of, IsPast, HasDone, HasBegun, MadeHolder, IsAccounted, NoneBetween, WasInstalled, WasBased, tables_due, OtherCompacts}
 use Rattle.wp_core.specs.Sound.Views.{noter_of}
 use Rattle.wp_core.specs.IsSound.{IsSound, participants}
 use Rattle.wp_core.proofs.Frames.{at_map}
 use Rattle.wp_core.proofs.AllParticipants.{mine}
 use Rattle.wp_core.proofs.OwnersStay.{past_locked}
 use Rattle.wp_core.proofs.Quiet.{holder_lives}
-use Rattle.wp_model.proofs.Tests.{some_there}
+use Rattle.wp_model.proofs.Tests.{some_there, none_some}
 use Rattle.wp_core.proofs.Remembers.{based_of, IsQuiet, holders_more, board_more, faults_more, edits_more}
 use Rattle.wp_core.proofs.AllParts.{SoIn, all_parts, tables_of, views_still, readers_still, turns_still, notes_stay, idle_set, led_still}
 
@@ -45,6 +46,7 @@ abbrev pub MayRemember : World → ℕ → Event → Type 0
 MayRemember w by (found key holder seen account) = IsAccounted w.opened w.writes.history (participants past_of w) by 0 key holder seen account
 MayRemember w by (heard label n) = (is_some (finite.get w.locks.labels label) ≡ true) × IsPast (participants past_of w) (told label n)
 MayRemember w by (stopped n) = (w.writes.closed ≡ true) × (n ≡ length w.writes.history)
+MayRemember w by (based_at n base) = (n ≤ length w.writes.history) × NoneBetween (participants past_of w) base n × WasBased w.first_edit (participants past_of w) base
 MayRemember w by (found_edit n base tables due halted) = WasInstalled w.first_edit (participants past_of w) n × WasBased w.first_edit (participants past_of w) base × (tables < due → OtherCompacts (participants past_of w) by 0) × (halted ≡ true → (w.installed.halted ≡ true) × (n ≡ w.installed.last.flushed))
 MayRemember w by e = ⊥
 
@@ -52,6 +54,7 @@ remembered_quietly : (w : World) (by : ℕ) (e : Event) → MayRemember w by e �
 remembered_quietly w by (found key holder seen account) may = record { log = refl; tables = refl; due = λ m. refl; last = λ m. refl }
 remembered_quietly w by (heard label n) may = record { log = refl; tables = refl; due = λ m. refl; last = λ m. refl }
 remembered_quietly w by (stopped n) may = record { log = refl; tables = refl; due = λ m. refl; last = λ m. refl }
+remembered_quietly w by (based_at n base) may = record { log = refl; tables = refl; due = λ m. refl; last = λ m. refl }
 remembered_quietly w by (found_edit n base tables due halted) may = record { log = refl; tables = refl; due = λ m. refl; last = λ m. refl }
 remembered_quietly w by e may = absurd may
 
@@ -65,18 +68,32 @@ with_events w by a e step at live may s =
       holders = holders_more w.actors by a b e at refl refl w.opened w.writes.history w.locks (λ key holder seen account q. is (found key holder seen account) q) s.holders;
       board = board_more w.actors by a b e at refl refl (world.published w) w.locks
           (λ label n q. ⊎_elim (λ (r : e ≡ told label n). absurd (is (told label n) r)) (λ (r : e ≡ heard label n). (is (heard label n) r).0) q) (λ label n q. (is (heard label n) q).1) (λ label n q. is (told label n) q) s.board;
-      faults = faults_more w.actors by a b e at refl refl w.writes w.installed.halted quiet.log quiet.tables (λ n q. is (stopped n) q) s.faults;
-      edits = edits_more w.actors by a b e at refl refl w.first_edit w.installed quiet (λ n base tables due halted q. let k = is (found_edit n base tables due halted) q in (k.0, k.1, k.2)) (λ n base tables due q. (is (found_edit n base tables due true) q).3 refl) s.edits;
+      faults = faults_more w.actors by a b e at refl refl w.writes w.installed.halted quiet.log quiet.tables (λ n q. is (stopped n) q) (λ n base q. let k = is (based_at n base) q in (k.0, k.1)) (λ edit q. absurd (is (renewed edit) q)) s.faults;
+      edits = edits_more w.actors by a b e at refl refl w.first_edit w.installed quiet (λ n base tables due halted q. let k = is (found_edit n base tables due halted) q in (k.0, k.1, k.2)) (λ n base q. (is (based_at n base) q).2) (λ n base tables due q. (is (found_edit n base tables due true) q).3 refl) s.edits;
     }) (turns_still w by a b at refl s)
     (readers_still w by a b at refl s)
     (notes_stay w by a b at step w.holders (SoIn w) refl (λ fact left m. record { guarded = m.guarded; is_so = so_past w a.participant (a.participant.past ++ e ∷ []) fact m.is_so }) (λ j x fact ne there m. m) s)
     (led_still w by a b at refl s) (idle_set w by a b at (λ dead. absurd (live dead)) s)
 
--- ---- the four steps
+-- ---- each step
 
 pub finds_log_closed : (w : World) (by : ℕ) (a : Actor) → get_elem? w.actors by ≡ some a → Needs w by a find_log_closed → IsSound w
     → IsSound (done w by (forgets w.writes.history (length w.cache) find_log_closed a) find_log_closed)
 finds_log_closed w by a at n s = with_events w by a (stopped (world.published w)) find_log_closed at (holder_lives w by a write_turn at n.0 s) (n.1, refl) s
+
+-- no segment waits, so the log is in that of the last edit, and no renewal has a base above it
+pub finds_base : (w : World) (by : ℕ) (a : Actor) → get_elem? w.actors by ≡ some a → Needs w by a find_base → IsSound w
+    → IsSound (done w by (forgets w.writes.history (length w.cache) find_base a) find_base)
+finds_base w by a at n s = with_events w by a (based_at (world.published w) w.writes.segment.base) find_base at (holder_lives w by a write_turn at n.0 s) (omega arith, λ edit there below. let high = (s.edits.risen edit there).1 in let base = ap (λ (x : Segment). x.base) in_use in omega (arith, high, base), subst (λ (x : Segment). WasBased w.first_edit (participants past_of w) x.base) in_use (based_of w.first_edit (participants past_of w) w.installed.last.segment s.edits.placed)) s
+  where
+    in_use : w.installed.last.segment ≡ w.writes.segment
+    in_use = ⊎_elim
+        (λ (same : w.installed.last.segment ≡ w.writes.segment). same)
+        (λ (next : (w.writes.next ≡ Some w.installed.last.segment) × (w.writes.closed ≡ false)). ⊎_elim
+        (λ (none : w.writes.next ≡ None). absurd (none_some w.writes.next w.installed.last.segment none next.0))
+        (λ (closed : w.writes.closed ≡ true). absurd (true≢false (sym closed ∙ next.1)))
+        n.1)
+        s.coupled.last
 
 -- who finds fewer tables than it knows of knows that another one compacted
 few_found : (w : World) (by : ℕ) (a : Actor) → get_elem? w.actors by ≡ some a → IsSound w → w.installed.last.tables < tables_due w.first_edit a.participant.past → OtherCompacts (participants past_of w) by 0

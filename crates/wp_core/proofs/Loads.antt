@@ -188,7 +188,7 @@ module _ (w : World) (r : Observed) (s : IsSound w) (live : (r.snapshot ≤ leng
   below_bound : Knows → (n : ℕ) → r.first_max ≡ Some n → r.version ≤ n → r.version ≤ w.max_evicted
   below_bound k n e le = le_trans le (k.first_max n e)
 
-  -- a decided version that no prepared table has is answered for
+  -- a decided version that no prepared set has is answered for
   answered : r.version ≤ r.snapshot → (c : ℕ) × (decision_of w.writes.history r.version ≡ Some c) → finite.get w.prepared.delayed_commits r.version ≡ None
       → (c : ℕ) × (decision_of w.writes.history r.version ≡ Some c) × AnswersFor w.max_evicted w.cache w.snapshots r.snapshot r.version c
   answered le d none = (d.0, d.1, answers_now w.writes.history w.cache w.prepared.delayed_commits w.max_evicted w.snapshots r.snapshot r.version d.0 s.decided d.1 none is_live le)

@@ -5,8 +5,9 @@ use mathlib.Core.Option.{some}
 use Rattle.std.specs.FinMap as finite
 use lib.ListN.{get_elem?}
 use Rattle.wp_model.specs.declared.holder.Holder.{Holder}
+use Rattle.wp_model.specs.declared.holder.Holder.TheVariants.{Txn}
 use Rattle.wp_model.specs.Batch.{key_cmp}
-use Rattle.wp_model.specs.LockState.{LockState}
+use Rattle.wp_model.specs.LockState.{LockState, Keys}
 use Rattle.wp_core.specs.Turns.{Holds, locks_turn}
 use Rattle.wp_core.specs.States.{Content, locks}
 use Rattle.wp_core.specs.Views.{Fact, Event, claimed, took, locked}
@@ -17,20 +18,25 @@ use Rattle.wp_core.specs.Changes.{change, held_with}
 use Rattle.wp_core.specs.Notes.{forgets, ends}
 use Rattle.wp_core.specs.Sound.Actors.{participants_of, IsParticipantAt}
 use Rattle.wp_core.specs.Sound.Locks.{owner_of, AreLocked, Owner}
-use Rattle.wp_core.specs.Sound.Pasts.{past_of, IsBoard}
-use Rattle.wp_core.specs.Sound.Views.{IsSo}
+use Rattle.wp_core.specs.Sound.Pasts.{past_of, raised_to, IsBoard}
+use Rattle.wp_core.specs.Sound.Views.{IsSo, AreKeysOf}
 use Rattle.wp_core.specs.IsSound.{IsSound, participants}
 use Rattle.wp_core.proofs.Quiet.{idle_after}
 use Rattle.wp_core.proofs.KeepsRemembered.{noter_there}
 use Rattle.wp_core.proofs.AllParts.{PastParts, SoIn, all_parts, tables_of, views_still, pasts_still, readers_still, turns_changed, notes_stay, led_still}
-use Rattle.wp_core.proofs.Remembers.{IsQuiet, FindsNothing, TellsNothing, holders_new, board_still, faults_more, edits_more}
+use Rattle.wp_core.proofs.Remembers.{IsQuiet, FindsNothing, TellsNothing, not_raised, holders_new, board_still, faults_more, edits_more}
 
--- what is noted, with this table in place of the world's
+-- what is noted, with this state in place of the world's
 abbrev pub SoWith : World → LockState → Participant → Fact → Type 0
 SoWith w t = IsSo w.delayed_flag w.old_flag w.max_evicted w.cache w.writes w.prepared w.snapshots w.store t w.installed
 
+-- the same keys are held for the transaction
+pub keys_still : (held more : Keys) (n : List ℕ) (keys : List (List ℕ)) → ((k : List ℕ) → finite.get more k ≡ Some (Txn n) → finite.get held k ≡ Some (Txn n)) → ((k : List ℕ) → finite.get held k ≡ Some (Txn n) → finite.get more k ≡ Some (Txn n))
+    → AreKeysOf held n keys → AreKeysOf more n keys
+keys_still held more n keys were still k = record { among = λ c h. k.among c (were c h); are_held = λ c h. still c (k.are_held c h) }
+
 module _ (w : World) (by : ℕ) (a : Actor) (step : Step) (p : Participant) (t : LockState) where
-  -- the actor before it knows the table
+  -- the actor before it knows the state
   abbrev pub actor_then : Actor
   actor_then = record (forgets w.writes.history (length w.cache) step a) { participant = record a.participant { transactions = p.transactions; direct = p.direct; past = p.past } }
 
@@ -66,11 +72,11 @@ module _ (w : World) (by : ℕ) (a : Actor) (step : Step) (p : Participant) (t :
     pasts_grown e grown quiet nothing names keys board s = record {
       holders = holders_new w.actors by a actor_after e at refl grown w.opened w.writes.history w.locks t nothing names keys s.holders;
       board = board;
-      faults = faults_more w.actors by a actor_after e at refl grown w.writes w.installed.halted quiet.log quiet.tables (λ n q. absurd (subst FindsNothing q nothing)) s.faults;
-      edits = edits_more w.actors by a actor_after e at refl grown w.first_edit w.installed quiet (λ n base tables due halted q. absurd (subst FindsNothing q nothing)) (λ n base tables due q. absurd (subst FindsNothing q nothing)) s.edits;
+      faults = faults_more w.actors by a actor_after e at refl grown w.writes w.installed.halted quiet.log quiet.tables (λ n q. absurd (subst FindsNothing q nothing)) (λ n base q. absurd (subst FindsNothing q nothing)) (λ edit q. absurd (not_raised e edit quiet.last edit.flushed (ap raised_to q))) s.faults;
+      edits = edits_more w.actors by a actor_after e at refl grown w.first_edit w.installed quiet (λ n base tables due halted q. absurd (subst FindsNothing q nothing)) (λ n base q. absurd (subst FindsNothing q nothing)) (λ n base tables due q. absurd (subst FindsNothing q nothing)) s.edits;
     }
 
-    -- the board hangs on the labels of a table alone
+    -- the board hangs on the labels of a state alone
     same_board : (actors : List Actor) → t.labels ≡ w.locks.labels → IsBoard (world.published w) w.locks (map (participants_of past_of) actors) → IsBoard (world.published w) t (map (participants_of past_of) actors)
     same_board actors labels k = record {
       labels = λ label n h. ap (λ (z : finite.FinMap key_cmp ℕ). is_some (finite.get z label)) labels ∙ k.labels label n h;

@@ -45,7 +45,7 @@ use Rattle.wp_core.specs.Sound.Prepared.{IsEntered}
 
 -- ---- the worlds of the run
 
--- the first actor, with this past, these transactions and these tables
+-- the first actor, with this past, these transactions and these states
 abbrev worker : List Event → Transactions → List Content → Actor
 worker past transactions held = record (new_actor true [] []) { participant = record (new_participant [] []) { past = past; transactions = transactions }; held = held }
 
@@ -134,7 +134,7 @@ lock_one first others s = by (s.free (key_of first))
           has = at_inserted s.transactions [] more [] refl;
           free = λ k. ⊎_elim (λ (e : finite.get s.table.keys k ≡ None). ⊎_elim (λ (same : k ≡ key). inr (new k same)) (λ (ne : k ≡ key → ⊥). inl (old k ne ∙ e)) (is_word_same k key)) (λ (e : finite.get s.table.keys k ≡ Some (Txn [])). inr (held k e)) (s.free k);
           keys = λ k is. ⊎_elim (new k) (λ (e : is_changed others k ≡ true). held k (s.keys k e)) (by_key first others k is);
-          run = on (worker s.past s.transactions (locks s.table ∷ [])) (lock_key [] s.transaction key) refl (refl, s.has, free) s.run;
+          run = on (worker s.past s.transactions (locks s.table ∷ [])) (lock_key [] s.transaction key) refl (refl, s.has, free, refl) s.run;
         }
 
 lock_all : (changes : List Change) → HasKeys changes
@@ -227,7 +227,7 @@ module _ (batch : List Change) (is : is_batch batch ≡ true) (s : HasKeys batch
     logged = refl;
     legal = legal batch is;
     versions = λ key value e. at_under 1 batch key 1 ∙ e;
-    keys = λ key changed. inr ([], s.transaction, s.has, s.keys key changed);
+    keys = λ key changed. inr ([], s.transaction, s.has, s.keys key changed, refl);
     transaction = λ name e. let q : None ≡ Some name = e in absurd (cc);
     number = λ e. absurd e;
     pair = λ pair e. let q : first_pair ≡ pair = ap (λ o. unwrap_or o first_pair) e in subst (λ (x : CommitPair). IsEntered (first_word ∷ []) empty_world.prepared.delayed_commits empty_world.max_evicted x) q (inl refl);

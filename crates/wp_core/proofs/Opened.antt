@@ -21,14 +21,15 @@ use Rattle.wp_model.proofs.Entries.{undecided_prepared, undecided_within}
 use Rattle.wp_history_laws.proofs.Undecided.{is_undecided_by_list}
 use Rattle.wp_judge.specs.Words.{CommitPair}
 use Rattle.wp_judge.specs.declared.observed.Observed.{Observed}
-use Rattle.wp_model.proofs.Found.{found_holder}
+use Rattle.wp_model.proofs.Found.{found_holder, found_named}
+use Rattle.wp_history_laws.proofs.Unchanged.{held_unchanged}
 use Rattle.wp_core.specs.Lists.{IsIn}
 use Rattle.wp_core.specs.Turns.{Turn, write_turn, prepared_turn, snapshots_turn, store_turn, locks_turn, tables_turn, Holds, all_free}
 use Rattle.wp_core.specs.Entries.{batch_of_name}
 use Rattle.wp_core.specs.States.{StoreState, Installed}
 use Rattle.wp_model.specs.Flushed.{InstalledEdit}
 use Rattle.wp_core.specs.Reading.{Registration}
-use Rattle.wp_core.specs.Views.{Event, Fact, told, heard, log_failed, log_stopped, tables_failed, stopped, found_edit, found}
+use Rattle.wp_core.specs.Views.{Event, Fact, told, heard, renewed, log_failed, log_stopped, tables_failed, stopped, based_at, found_edit, found}
 use Rattle.wp_core.specs.World.{World, Actor, Participant, Transaction, new_actor, new_participant, content_of}
 use Rattle.wp_core.specs.Runs.{IsOpening}
 use Rattle.wp_history_laws.specs.Opened.{AreOpened, named_by, prepare_holding}
@@ -237,6 +238,7 @@ module _ (opened : List Entry) (cache : List ℕ) (flag : ℕ) (logged : Bool) (
       keys_live = key_live;
       keys_known = λ key name e j i o at x has. absurd (no_transaction name x (ap (λ (z : Owner). finite.get z.transactions name) (one_participant (owner_of (new_participant client opened)) j i o at) ∙ has));
       keys_direct = λ key c e. absurd (no_client_holds opened (holder_of opened key) c (sym (locks.keys key) ∙ e));
+      unchanged = λ key name p is e. held_unchanged opened key p legal (found_named opened name p is).0 (ap (λ (o : Option ℕ). is_changed (batch_at opened (unwrap_or o 0)) key) (sym is) ∙ key_changed key name e);
     };
     holders = record {
       names = λ name live. inr (was_named name live);
@@ -249,7 +251,9 @@ module _ (opened : List Entry) (cache : List ℕ) (flag : ℕ) (logged : Bool) (
       tables = refl;
       not_logged = λ e. inl refl;
       stopped = λ n k. absurd (no_past (stopped n) k);
+      based = λ n base k. absurd (no_past (based_at n base) k);
       failed = λ entries k. absurd (no_past (log_failed entries) k);
+      renewing = λ q. absurd (true≢false (sym q));
       of_log = λ entries k. absurd (no_past (log_failed entries) k);
       behind = λ k. absurd (no_past log_stopped k);
       unfailed = λ k. absurd (no_past log_stopped k);
@@ -258,8 +262,10 @@ module _ (opened : List Entry) (cache : List ℕ) (flag : ℕ) (logged : Bool) (
       last = inl refl;
       rises = λ n k. ⊎_elim (λ (q : n ≡ edit.flushed). omega (arith, q)) (λ (h : (x : Event) × (raised_to x ≡ Some n) × IsPast (([] ∷ []) ∷ []) x). absurd (no_past h.0 h.2)) k;
       placed = inl refl;
+      risen = λ renewal k. absurd (no_past (renewed renewal) k);
       found = λ n base tables due halted k. absurd (no_past (found_edit n base tables due halted) k);
       found_base = λ n base tables due halted k. absurd (no_past (found_edit n base tables due halted) k);
+      based = λ n base k. absurd (no_past (based_at n base) k);
       few = λ j i n base tables due halted k less. absurd (no_past (found_edit n base tables due halted) (j, i, k));
       edit = λ j i past at. inl (ap (last_installed edit) (one_participant [] j i past at));
       tables = λ j i past at. inl (subst (λ (z : List Event). tables_due edit z ≤ edit.tables) (one_participant [] j i past at) (omega arith));

@@ -6,8 +6,9 @@ use Rattle.std.specs.FinMap as finite
 use Rattle.std.specs.FinSet as words
 use Rattle.wp_model.specs.History.{holder_of}
 use Rattle.wp_core.specs.World.{Transaction, Participant, Actor, World}
-use Rattle.wp_core.specs.Sound.Views.{Owns}
+use Rattle.wp_core.specs.Sound.Views.{Owns, OwnsKey}
 use Rattle.wp_model.proofs.Keyed.{is_word_same, at_inserted, else_inserted, now_inserted}
+use Rattle.wp_model.proofs.Tests.{same_some}
 
 module _ (w : World) (by : ℕ) (a : Actor) (name : List ℕ) (x0 x1 : Transaction) (at : get_elem? w.actors by ≡ some a) (has : finite.get a.participant.transactions name ≡ Some x0) where
   abbrev p : Participant
@@ -30,6 +31,13 @@ module _ (w : World) (by : ℕ) (a : Actor) (name : List ℕ) (x0 x1 : Transacti
 
   pub owns_still : (n : List ℕ) → Owns a.participant n → Owns p n
   owns_still n k = has_still n k.0 k.1
+
+  pub owns_key_still : (n c : List ℕ) → (words.contains x0.locked c ≡ true → words.contains x1.locked c ≡ true) → OwnsKey a.participant n c → OwnsKey p n c
+  owns_key_still n c stays k = ⊎_elim
+      (λ (q : n ≡ name).
+      let its : k.0 ≡ x0 = same_some k.0 x0 (sym k.1 ∙ ap (finite.get a.participant.transactions) q ∙ has) in
+      (x1, at_inserted a.participant.transactions name x1 n q, stays (subst (λ (z : Transaction). words.contains z.locked c ≡ true) its k.2)))
+      (λ (ne : n ≡ name → ⊥). (k.0, else_inserted a.participant.transactions name x1 n ne ∙ k.1, k.2)) (is_word_same n name)
 
   -- what is so of each key of each transaction that the actor has, from what was so
   pub each_key : (P : List ℕ → List ℕ → Type 0) → ((c : List ℕ) → words.contains x1.locked c ≡ true → P name c) → ((n : List ℕ) (x : Transaction) (c : List ℕ) → (n ≡ name → ⊥) → finite.get a.participant.transactions n ≡ Some x → words.contains x.locked c ≡ true → P n c)

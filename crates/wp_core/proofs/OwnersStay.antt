@@ -67,6 +67,7 @@ module _ (xs : List Actor) (by : ℕ) (a b : Actor) (at : get_elem? xs by ≡ so
     keys_live = k.keys_live;
     keys_known = λ key name h. known_still key name (k.keys_known key name h);
     keys_direct = λ key client h. direct_kept xs by a b at same is.client is.past key client (λ q. is.direct ∙ q) (k.keys_direct key client h);
+    unchanged = k.unchanged;
   }
 
 -- one that has the same of names and keys remembers one event more

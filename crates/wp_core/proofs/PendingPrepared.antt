@@ -126,7 +126,7 @@ module _ (w : World) (s : IsSound w) where
   next_gone : (p : ℕ) → p ≡ suc (length w.writes.history) → finset.contains less p ≡ false
   next_gone p e = ap (finset.contains less) e ∙ in_removed w.prepared.heap (suc (length w.writes.history))
 
-  -- the next number is in no other table, for the delayed ones are passed
+  -- the next number is in no other set, for the delayed ones are passed
   none_next : (p : ℕ) → p ≡ suc (length w.writes.history) → is_prepared (record w.prepared { heap = less }) p ≡ true → is_prepare (entry_at (extended w.writes.history w.writes.pending) p) ≡ true
   none_next p e there =
       ⊎_elim (λ (q : finset.contains less p ≡ true). absurd (true≢false (sym q ∙ next_gone p e)))

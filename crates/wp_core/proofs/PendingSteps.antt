@@ -34,7 +34,7 @@ use Rattle.wp_model.proofs.Tests.{none_some}
 use Rattle.wp_core.proofs.Gives.{not_free}
 use Rattle.wp_core.proofs.HoldersChange.{none_next}
 
--- the write table with what is pending, whether that is logged, and the log
+-- the write state with what is pending, whether that is logged, and the log
 abbrev pub with_pending : WriteState → List Entry → Bool → List Entry → WriteState
 with_pending t pending logged log = record t { pending = pending; logged = logged; log = log }
 
@@ -154,7 +154,7 @@ so_pending w step pending log logged memory delayed undelayed p fact stays k = k
 pub makes_pending : (w : World) (by : ℕ) (a : Actor) (entries : List Entry) → get_elem? w.actors by ≡ some a → Needs w by a (make_pending entries) → IsSound w → IsSound (done w by (forgets w.writes.history (length w.cache) (make_pending entries) a) (make_pending entries))
 makes_pending w by a entries at n s =
     pending_changes w by a (make_pending entries) entries false w.writes.log at n.0 (history_made w entries n.1 n.2 n.3 s) (cache_made w entries n.1 s) (undecided_made w entries n.1 s) (delayed_made w entries n.1 s) (stored_made w entries n.1 s)
-    (record { log = s.faults.log; tables = s.faults.tables; not_logged = λ closed. inr refl; stopped = s.faults.stopped; failed = s.faults.failed; of_log = s.faults.of_log; behind = s.faults.behind; unfailed = s.faults.unfailed }) (λ segment is running. absurd (none_next w.writes n.4 segment is running))
+    (record { log = s.faults.log; tables = s.faults.tables; not_logged = λ closed. inr refl; stopped = s.faults.stopped; based = s.faults.based; failed = s.faults.failed; renewing = s.faults.renewing; of_log = s.faults.of_log; behind = s.faults.behind; unfailed = s.faults.unfailed }) (λ segment is running. absurd (none_next w.writes n.4 segment is running))
     (notes_by w by (make_pending entries) write_turn _ n.0 (so_pending w (make_pending entries) entries w.writes.log false refl refl refl)) s
 
 -- ---- it is logged
@@ -179,5 +179,5 @@ so_logged w p fact k = k
 pub logs_pending : (w : World) (by : ℕ) (a : Actor) → get_elem? w.actors by ≡ some a → Needs w by a log_pending → IsSound w → IsSound (done w by (forgets w.writes.history (length w.cache) log_pending a) log_pending)
 logs_pending w by a at n s =
     pending_changes w by a log_pending w.writes.pending true (w.writes.log ++ w.writes.pending) at n.0 (history_logged w n.2 s) s.cache s.undecided s.delayed s.versions
-    (record { log = s.faults.log; tables = s.faults.tables; not_logged = λ closed. absurd (true≢false (sym closed ∙ n.3)); stopped = s.faults.stopped; failed = s.faults.failed; of_log = s.faults.of_log; behind = s.faults.behind; unfailed = s.faults.unfailed }) (λ segment is running. ((s.coupled.next segment is).1 running).0)
+    (record { log = s.faults.log; tables = s.faults.tables; not_logged = λ closed. absurd (true≢false (sym closed ∙ n.3)); stopped = s.faults.stopped; based = s.faults.based; failed = s.faults.failed; renewing = s.faults.renewing; of_log = s.faults.of_log; behind = s.faults.behind; unfailed = s.faults.unfailed }) (λ segment is running. ((s.coupled.next segment is).1 running).0)
     (notes_all w by log_pending _ (so_logged w)) s

@@ -171,6 +171,7 @@ module _ (row place : ℕ → ℕ → ℕ) (history : List Entry) (xs ys : List 
         (λ (c : IsParticipantAt (owners ys) (row o.at o.place) (place o.at o.place) o.owner). record { at = row o.at o.place; place = place o.at o.place; owner = o.owner; there = c; client_is = o.client_is; has = o.has; began = o.began })
         (λ (n : IsOfNone row place history xs ys m owner_of o.owner). absurd (not_direct o.owner key n o.has))
         (goes_to row place history xs ys m owner_of o.at o.place o.owner o.there);
+    unchanged = k.unchanged;
   }
 
   -- ---- pasts
@@ -254,7 +255,9 @@ module _ (row place : ℕ → ℕ → ℕ) (history : List Entry) (xs ys : List 
     tables = total_same row place history xs ys m past_of (total (λ (e : Event). one_if (is_tables_fault e))) (λ p none. ap (λ (z : Participant). total (λ (e : Event). one_if (is_tables_fault e)) z.past) none) ∙ k.tables;
     not_logged = k.not_logged;
     stopped = λ n h. k.stopped n (past_was _ h);
+    based = λ n base h. let f = k.based n base (past_was _ h) in (f.0, λ edit there. f.1 edit (past_was _ there));
     failed = λ entries h. k.failed entries (past_was _ h);
+    renewing = k.renewing;
     of_log = λ entries h. k.of_log entries (past_was _ h);
     behind = λ h. k.behind (past_was _ h);
     unfailed = λ h. k.unfailed (past_was _ h);
@@ -331,8 +334,10 @@ module _ (row place : ℕ → ℕ → ℕ) (history : List Entry) (xs ys : List 
     last = installed_moved first t.last.flushed k.last;
     rises = λ n h. k.rises n (⊎_elim (λ q. inl q) (λ (c : (e : Event) × (raised_to e ≡ Some n) × IsPast (pasts ys) e). inr (c.0, c.1, past_was c.0 c.2)) h);
     placed = placed_moved first t.last.segment k.placed;
+    risen = λ edit h. k.risen edit (past_was _ h);
     found = λ n base tables due halted h. installed_moved first n (k.found n base tables due halted (past_was _ h));
     found_base = λ n base tables due halted h. based_moved first base (k.found_base n base tables due halted (past_was _ h));
+    based = λ n base h. based_moved first base (k.based n base (past_was _ h));
     few = few_moved first t k;
     edit = λ j i past there. ⊎_elim
         (λ (c : CameWith row place history xs ys m past_of j i past). ⊎_elim

@@ -1,4 +1,4 @@
--- Changes of the prepared tables keep a world sound.
+-- Changes of the prepared sets keep a world sound.
 use Rattle.std.proofs.Common.{◌≡◌, ◌≢◌, ◌⊎◌, inl, inr, ⊎_elim, ℕ, suc, ◌||◌, true, false, true≢false, length, slice_index, refl, sym, subst, ap, ◌∙◌, Some, None, arith, map, List, ◌≤◌, Bool}
 use mathlib.Core.Option.{some}
 use mathlib.Core.Logic.{dite}
@@ -37,7 +37,7 @@ use Rattle.wp_core.proofs.Gives.{not_free}
 use Rattle.wp_model.specs.declared.entry.Entry.{Entry}
 use Rattle.wp_judge.specs.declared.observed.Observed.{Observed}
 
--- what is noted with these prepared tables in place of the world's
+-- what is noted with these prepared sets in place of the world's
 abbrev pub SoWith : World → PreparedSets → Participant → Fact → Type 0
 SoWith w t = IsSo w.delayed_flag w.old_flag w.max_evicted w.cache w.writes t w.snapshots w.store w.locks w.installed
 

@@ -1,4 +1,4 @@
--- The pending entry joins the history: the cache, what is decided and undecided, and the prepared tables.
+-- The pending entry joins the history: the cache, what is decided and undecided, and the prepared sets.
 use Rattle.std.proofs.Common.{◌≡◌, ◌⊎◌, ⊎_elim, inl, inr, ℕ, suc, ◌||◌, Bool, true, true≢false, List, [], ◌∷◌, ◌++◌, length, sym, ap, ◌∙◌, Some}
 use Rattle.std.specs.Ordering.{nat_cmp}
 use Rattle.std.specs.FinSet as set

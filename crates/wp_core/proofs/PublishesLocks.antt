@@ -1,6 +1,7 @@
 -- The pending entry joins the history: names and keys, holders, the board, and faults.
-use Rattle.std.proofs.Common.{◌≡◌, ⊎_elim, inl, inr, ℕ, suc, Bool, true, false, true≢false, List, [], ◌∷◌, ◌++◌, length, refl, sym, subst, ap, ◌∙◌, Option, Some, None, arith}
+use Rattle.std.proofs.Common.{◌≡◌, ⊎_elim, inl, inr, ℕ, suc, ◌≤◌, Bool, true, false, true≢false, List, [], ◌∷◌, ◌++◌, length, length-append, refl, sym, subst, ap, ◌∙◌, Option, Some, None, arith}
 use Rattle.std.specs.Prelude.{is_some, unwrap_or}
+use Rattle.std.proofs.lemmas.Bool.{eq-eqb, false_from_ne_true}
 use Rattle.std.proofs.lemmas.List.{take-append-le}
 use Rattle.std.proofs.lemmas.Slice.Eq.{bytes_eq-Decides}
 use Rattle.std.specs.FinMap as finite
@@ -9,20 +10,23 @@ use Rattle.wp_model.specs.declared.entry.Entry.{Entry}
 use Rattle.wp_model.specs.declared.entry.Entry.TheVariants.{Write, Prepare, Commit, Undo, Close}
 use Rattle.wp_model.specs.declared.holder.Holder.{Holder}
 use Rattle.wp_model.specs.declared.holder.Holder.TheVariants.{Txn, Client}
-use Rattle.wp_model.specs.History.{is_prepare, prepared_name, prepared_batch, name_at, batch_at, decides, is_changed, named}
-use Rattle.wp_model.specs.Legal.{IsLegal}
+use Rattle.wp_model.specs.History.{is_prepare, prepared_name, prepared_batch, name_at, batch_at, decides, is_undecided, is_changed, changes_of, named}
+use Rattle.wp_model.specs.Legal.{IsLegal, IsLegalNext}
 use Rattle.wp_model.specs.LockState.{LockState}
 use Rattle.wp_model.proofs.Found.{found_named}
 use Rattle.wp_model.proofs.Entries.{undecided_within}
-use Rattle.wp_core.specs.Entries.{transaction_of}
+use Rattle.wp_history_laws.proofs.Unchanged.{unchanged_grows, unchanged_at_end}
+use Rattle.wp_core.specs.Entries.{transaction_of, written}
 use Rattle.wp_core.specs.States.{WriteState}
 use Rattle.wp_core.specs.Views.{Account, own, another, prepare_at, Event}
 use Rattle.wp_core.specs.Effects.{with_entry}
 use Rattle.wp_core.specs.Sound.Locks.{Owner, HasKeyAt, WasPrepared, PrepareHas, CameToKey, AreLocked}
 use Rattle.wp_core.specs.Sound.Pasts.{MadeHolder, IsAccounted, AreHolders, IsBoard, AreFaults}
 use Rattle.wp_core.proofs.HistoryLaws.{is_equal}
-use Rattle.wp_core.proofs.HistoryGrows.{at_next, grown_length, named_stays, name_at_old, batch_at_grown, undecided_before_or_now}
-use Rattle.wp_model.proofs.Tests.{some_there}
+use Rattle.wp_core.proofs.HistoryGrows.{before, after, at_next, grown_length, named_stays, name_at_old, batch_at_grown, undecided_before_or_now}
+use Rattle.wp_core.proofs.OneHolder.{name_is}
+use Rattle.wp_model.proofs.Keyed.{txn_is}
+use Rattle.wp_model.proofs.Tests.{some_there, same_some, none_some}
 
 -- the Prepare that an entry is
 pub record IsPrepareOf (entry : Entry) : Type 0 where
@@ -53,6 +57,21 @@ not_decided history entry name p is other = by (decides p entry) refl
     by false e = refl
     by true e = absurd (other (decider_of history p entry e ∙ ap (λ (x : List ℕ). Some x) ((bytes_eq-Decides (name_at history p) name).0 (found_named history name p is).1)))
 
+-- an entry that does not decide the prepare of a name changes no key that is held for it
+held_kept : (history : List Entry) (entry : Entry) (t : LockState) → IsLegal history → IsLegalNext history entry
+    → ((q : ℕ) (key : List ℕ) → is_undecided history q ≡ true → is_changed (batch_at history q) key ≡ true → finite.get t.keys key ≡ Some (Txn (name_at history q)))
+    → ((key name : List ℕ) → is_changed (written entry) key ≡ true → finite.get t.keys key ≡ Some (Txn name) → named history name ≡ None)
+    → (key name : List ℕ) (p : ℕ) → named history name ≡ Some p → finite.get t.keys key ≡ Some (Txn name) → decides p entry ≡ false → is_changed (changes_of history entry) key ≡ false
+held_kept history (Write batch) t legal next prepared unprepared key name p is held other = false_from_ne_true _ (λ changed. none_some (named history name) p (unprepared key name changed held) is)
+held_kept history (Prepare new batch) t legal next prepared unprepared key name p is held other = refl
+held_kept history (Commit q) t legal next prepared unprepared key name p is held other = false_from_ne_true _ (λ changed.
+    let undecided = next.orderly.names_undecided in
+    let same : name_at history q ≡ name = txn_is (name_at history q) name (sym (prepared q key undecided changed) ∙ held) in
+    let it : q ≡ p = same_some q p (sym (name_is history legal q undecided) ∙ (ap (named history) same ∙ is)) in
+    true≢false (sym (eq-eqb q p it) ∙ other))
+held_kept history (Undo q batch) t legal next prepared unprepared key name p is held other = refl
+held_kept history (Close q) t legal next prepared unprepared key name p is held other = refl
+
 module _ (history : List Entry) (entry : Entry) (legal : IsLegal (history ++ entry ∷ [])) where
   abbrev grown : List Entry
   grown = history ++ entry ∷ []
@@ -76,6 +95,17 @@ module _ (history : List Entry) (entry : Entry) (legal : IsLegal (history ++ ent
         named_stays history entry legal name x.0 x.1 (not_decided history entry name x.0 x.1 (λ of. let l = live name of in let q : Some None ≡ Some (Some l.0) = sym left ∙ l.1 in absurd cc)),
       )
 
+  -- an old prepare that the longer history finds by a name was found by it
+  pub named_was : (name : List ℕ) (p : ℕ) → p ≤ length history → named grown name ≡ Some p → named history name ≡ Some p
+  named_was name p le is =
+      let f = found_named grown name p is in
+      ⊎_elim
+      (λ (o : (p ≤ length history) × (is_undecided history p ≡ true) × (decides p entry ≡ false)).
+      let same : name_at history p ≡ name = sym (name_at_old history entry legal p le) ∙ (bytes_eq-Decides (name_at grown p) name).0 f.1 in
+      ap (named history) (sym same) ∙ name_is history (before history entry legal) p o.1)
+      (λ (o : (p ≡ next) × (is_prepare (Some entry) ≡ true)). let e = o.0 in absurd (omega (arith, e, le)))
+      (undecided_before_or_now history entry legal p f.0)
+
   -- a prepare that was undecided at a moment was so
   was_grows : (from n : ℕ) (name : List ℕ) (key : Option (List ℕ)) → WasPrepared history from n name key → WasPrepared grown from n name key
   was_grows from n name key k =
@@ -91,8 +121,9 @@ module _ (history : List Entry) (entry : Entry) (legal : IsLegal (history ++ ent
 
   pub locks_part : (opened : List Entry) (t : LockState) (owners : List (List Owner)) → ((name : List ℕ) → transaction_of history entry ≡ Some name → (client : List ℕ) × (finite.get t.names name ≡ Some (Some client)))
       → ((name : List ℕ) (batch : List Change) (key : List ℕ) → entry ≡ Prepare name batch → is_changed batch key ≡ true → finite.get t.keys key ≡ Some (Txn name))
+      → ((key name : List ℕ) → is_changed (written entry) key ≡ true → finite.get t.keys key ≡ Some (Txn name) → named history name ≡ None)
       → AreLocked opened history t owners → AreLocked opened grown t owners
-  locks_part opened t owners live held k = record {
+  locks_part opened t owners live held unprepared k = record {
     prepared_names = λ p u. ⊎_elim
         (λ o. ap (λ (x : List ℕ). is_some (finite.get t.names x)) (name_at_old history entry legal p o.0) ∙ k.prepared_names p o.1)
         (λ (o : (p ≡ next) × (is_prepare (Some entry) ≡ true)).
@@ -118,6 +149,12 @@ module _ (history : List Entry) (entry : Entry) (legal : IsLegal (history ++ ent
     keys_live = k.keys_live;
     keys_known = k.keys_known;
     keys_direct = k.keys_direct;
+    unchanged = λ key name p is has. ⊎_elim
+        (λ (o : (p ≤ length history) × (is_undecided history p ≡ true) × (decides p entry ≡ false)).
+        let was = named_was name p o.0 is in
+        unchanged_grows history entry (before history entry legal) (after history entry legal) key p (held_kept history entry t (before history entry legal) (after history entry legal) k.prepared_keys unprepared key name p was has o.2) (k.unchanged key name p was has))
+        (λ (o : (p ≡ next) × (is_prepare (Some entry) ≡ true)). let e = o.0 in let l = grown_length history entry legal in unchanged_at_end grown key p (omega (arith, e, l)))
+        (undecided_before_or_now history entry legal p (found_named grown name p is).0);
   }
 
   -- ---- the pasts
@@ -147,7 +184,9 @@ faults_part t entry others halted pasts open_log k = record {
   tables = k.tables;
   not_logged = λ closed. absurd (true≢false (sym closed ∙ open_log));
   stopped = λ n h. absurd (true≢false (sym (k.stopped n h).0 ∙ open_log));
+  based = λ n base h. let f = k.based n base h in let few = f.0 in let more = length-append t.history (entry ∷ []) in (omega (arith, few, more), f.1);
   failed = k.failed;
+  renewing = λ closed. absurd (true≢false (sym closed ∙ open_log));
   of_log = k.of_log;
   behind = k.behind;
   unfailed = k.unfailed;

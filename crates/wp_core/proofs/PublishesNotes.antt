@@ -1,8 +1,9 @@
 -- The pending entry joins the history: what actors noted.
-use Rattle.std.proofs.Common.{◌≡◌, ◌≢◌, ℕ, suc, ◌≤◌, Bool, true, false, not, true≢false, List, [], ◌∷◌, ◌++◌, length, refl, sym, ap, ◌∙◌, Option, Some, None, le_trans, arith}
+use Rattle.std.proofs.Common.{◌≡◌, ◌≢◌, ⊎_elim, ℕ, suc, ◌≤◌, Bool, true, false, not, true≢false, List, [], ◌∷◌, ◌++◌, length, refl, sym, ap, ◌∙◌, Option, Some, None, le_trans, arith}
 use mathlib.Core.Option.{some}
 use lib.ListN.{get_elem?}
 use Rattle.std.specs.Str.{bytes_eq}
+use Rattle.std.proofs.lemmas.Bool.{false_from_ne_true}
 use Rattle.std.proofs.lemmas.Slice.Eq.{bytes_eq-Decides}
 use Rattle.std.specs.FinMap as finite
 use Rattle.wp_model.specs.declared.change.Change.{Change}
@@ -10,33 +11,36 @@ use Rattle.wp_model.specs.declared.entry.Entry.{Entry}
 use Rattle.wp_model.specs.declared.entry.Entry.TheVariants.{Write, Prepare, Commit, Undo, Close}
 use Rattle.wp_model.specs.declared.holder.Holder.TheVariants.{Txn, Client}
 use Rattle.wp_model.specs.Batch.{change_to}
-use Rattle.wp_model.specs.History.{prepared_name, name_at, batch_at, is_undecided, is_changed, changes_of}
+use Rattle.wp_model.specs.Changed.{IsUnchanged}
+use Rattle.wp_model.specs.History.{prepared_name, name_at, batch_at, is_undecided, named, is_changed, changes_of}
 use Rattle.wp_model.specs.Legal.{IsLegalNext, prior}
 use Rattle.wp_judge.specs.Words.{CommitPair}
 use Rattle.wp_history_laws.proofs.Above.{is_changed_from}
 use Rattle.wp_history_laws.proofs.Held.{not_free, free_key}
 use Rattle.wp_model.proofs.Entries.{undecided_within}
 use Rattle.wp_model.proofs.Found.{found_named}
-use Rattle.wp_core.specs.Conditions.{MayPublish}
-use Rattle.wp_core.specs.Entries.{transaction_of, changes_under}
+use Rattle.wp_core.specs.Conditions.{MayPublish, HasTransaction}
+use Rattle.wp_history_laws.proofs.Unchanged.{unchanged_grows}
+use Rattle.wp_core.specs.Entries.{transaction_of, changes_under, written}
 use Rattle.wp_core.specs.Turns.{write_turn}
 use Rattle.wp_core.specs.States.{WriteState}
-use Rattle.wp_core.specs.Views.{Fact, passed, in_old_commits, apart, has_left, versions_in_memory, versions_nowhere, number_in_heap, number_not_in_heap, pair_delayed, pair_not_delayed, none_waits, undecided_at, prior_values, unprepared, direct_free, live_listed, frozen_stay}
-use Rattle.wp_core.specs.World.{Participant, Actor, World}
+use Rattle.wp_core.specs.Views.{Fact, passed, in_old_commits, apart, has_left, versions_in_memory, versions_nowhere, number_in_heap, number_not_in_heap, pair_delayed, pair_not_delayed, none_waits, undecided_at, prior_values, unprepared, direct_free, unchanged, locks_stay, live_listed, frozen_stay}
+use Rattle.wp_core.specs.World.{Transaction, Participant, Actor, World}
 use Rattle.wp_core.specs.Steps.{store_published}
 use Rattle.wp_core.specs.Effects.{with_entry}
 use Rattle.wp_core.specs.Notes.{ends, is_name}
 use Rattle.wp_core.specs.Sound.Actors.{IsParticipantAt}
 use Rattle.wp_core.specs.Sound.Locks.{owner_of, IsOwner}
-use Rattle.wp_core.specs.Sound.Views.{IsClearing, HasLeft, Owns, IsGuarded}
+use Rattle.wp_core.specs.Sound.Views.{IsClearing, HasLeft, Owns, OwnsKey, IsGuarded}
 use Rattle.wp_core.specs.IsSound.{IsSound, participants}
 use Rattle.wp_core.proofs.AllParticipants.{mine}
 use Rattle.wp_core.proofs.HistoryLaws.{decision_stays}
-use Rattle.wp_core.proofs.HistoryGrows.{none_is, grown_length, after, named_stays, unnamed_stays, free_stays, batch_at_grown, newest_kept, prior_same}
+use Rattle.wp_core.proofs.HistoryGrows.{none_is, grown_length, before, after, named_stays, unnamed_stays, free_stays, batch_at_grown, newest_kept, prior_same}
 use Rattle.wp_core.proofs.PendingSteps.{SoPending}
-use Rattle.wp_core.proofs.PublishesLocks.{prepare_of, not_decided, batch_new}
+use Rattle.wp_core.proofs.PublishesLocks.{prepare_of, not_decided, named_was, batch_new}
 use Rattle.wp_core.proofs.AllParts.{SoIn}
 use Rattle.wp_model.proofs.Keyed.{txn_is}
+use Rattle.wp_model.proofs.Tests.{neither}
 use Rattle.wp_core.proofs.Gives.{not_theirs}
 
 never_true : (b : Bool) → (b ≡ true → ⊥) → b ≡ false
@@ -72,6 +76,12 @@ module _ (w : World) (by : ℕ) (a : Actor) (entry : Entry) (others : List Entry
   pub prepares_held : (name : List ℕ) (batch : List Change) (key : List ℕ) → entry ≡ Prepare name batch → is_changed batch key ≡ true → finite.get w.locks.keys key ≡ Some (Txn name)
   prepares_held name batch key is changed = ((n.transaction name (ap (transaction_of history) is)).2 key (ap (λ (x : Entry). is_changed (changes_under history x) key) is ∙ changed)).1
 
+  -- a key that the entry writes is held for no prepared transaction
+  pub writes_unprepared : (key name : List ℕ) → is_changed (written entry) key ≡ true → finite.get w.locks.keys key ≡ Some (Txn name) → named history name ≡ None
+  writes_unprepared key name changed held = ⊎_elim
+      (λ (d : (a.participant.direct ≡ Some key) × (finite.get w.locks.keys key ≡ Some (Client a.participant.client))). absurd (txn_not_client name a.participant.client (sym held ∙ d.1)))
+      (λ (t : (m : List ℕ) × (x : Transaction) × HasTransaction a m x × (finite.get w.locks.keys key ≡ Some (Txn m)) × (named history m ≡ None)). ap (named history) (txn_is name t.0 (sym held ∙ t.3)) ∙ t.4) (n.keys key changed)
+
   -- the entry's transaction is live
   pub transaction_live : (name : List ℕ) → transaction_of history entry ≡ Some name → (client : List ℕ) × (finite.get w.locks.names name ≡ Some (Some client))
   transaction_live name e = let t = n.transaction name e in (a.participant.client, (s.locks.had by 0 (owner_of a.participant) own_there).names name t.0 t.1)
@@ -86,6 +96,13 @@ module _ (w : World) (by : ℕ) (a : Actor) (entry : Entry) (others : List Entry
       other (ap (λ (z : List ℕ). Some z) (txn_is (name_at history q) (name_at history p) (sym its ∙ mine_held))))
   commits_apart (Undo q batch) is k p key u changed other = refl
   commits_apart (Close q) is k p key u changed other = refl
+
+  -- an entry that does not change the key leaves it unchanged
+  still_unchanged : (key : List ℕ) (m : ℕ) → is_changed (changes_of history entry) key ≡ false → (m ≤ length history) × IsUnchanged history key m → (m ≤ length grown) × IsUnchanged grown key m
+  still_unchanged key m other k = (le_trans k.0 longer, unchanged_grows history entry (before history entry n.legal) (after history entry n.legal) key m other k.1)
+
+  locks_grow : (q : Participant) (name : List ℕ) (p : ℕ) (keys : List (List ℕ)) → SoIn w q (locks_stay name p keys) → SoPending w d q (locks_stay name p keys)
+  locks_grow q name p keys k = (le_trans k.0 longer, λ is. k.1 (named_was history entry n.legal name p k.0 is))
 
   module _ (q : Participant) (owner : IsOwner w.opened w.writes.history w.locks (owner_of q)) where
     undecided_grows : (name : List ℕ) (p : ℕ) → (transaction_of history entry ≡ Some name → ⊥) → SoIn w q (undecided_at name p) → SoPending w d q (undecided_at name p)
@@ -152,6 +169,8 @@ module _ (w : World) (by : ℕ) (a : Actor) (entry : Entry) (others : List Entry
   mine_grows (prior_values name p batch) left k = prior_grows a.participant own_owner name p batch (not_its name left) k
   mine_grows (unprepared name) left k = unprepared_grows a.participant own_owner name (not_its name left) k
   mine_grows (direct_free key) left k = direct_grows a.participant own_owner key k
+  mine_grows (unchanged name key m) left k = let u = still_unchanged key m (neither _ _ left).1 (k.1, k.2) in (k.0, u.0, u.1)
+  mine_grows (locks_stay name p keys) left k = locks_grow a.participant name p keys k
   mine_grows (live_listed floor listed) left k = (le_trans k.0 longer, k.1)
   mine_grows (frozen_stay m versions) left k = (le_trans k.0 longer, k.1)
   mine_grows fact left k = k
@@ -164,6 +183,25 @@ module _ (w : World) (by : ℕ) (a : Actor) (entry : Entry) (others : List Entry
 
     not_theirs_now : (name : List ℕ) → Owns q name → transaction_of history entry ≡ Some name → ⊥
     not_theirs_now name has e = let t = n.transaction name e in ne (s.locks.apart.names j 0 by 0 (owner_of q) (owner_of a.participant) name has.0 t.0 there own_there has.1 t.1).0
+
+    -- nobody changes a key that another one's transaction has locked
+    not_theirs_changed : (name key : List ℕ) → OwnsKey q name key → (x : Entry) → entry ≡ x → is_changed (changes_of history x) key ≡ false
+    not_theirs_changed name key has (Write batch) is = false_from_ne_true _ (λ changed.
+        let held = theirs.keys name has.0 key has.1 has.2 in
+        ⊎_elim
+        (λ (d : (a.participant.direct ≡ Some key) × (finite.get w.locks.keys key ≡ Some (Client a.participant.client))). txn_not_client name a.participant.client (sym held ∙ d.1))
+        (λ (t : (m : List ℕ) × (x : Transaction) × HasTransaction a m x × (finite.get w.locks.keys key ≡ Some (Txn m)) × (named history m ≡ None)).
+        let same : t.0 ≡ name = txn_is t.0 name (sym t.3 ∙ held) in
+        ne (s.locks.apart.names j 0 by 0 (owner_of q) (owner_of a.participant) name has.0 t.1 there own_there has.1 (ap (finite.get a.participant.transactions) (sym same) ∙ t.2)).0)
+        (n.keys key (ap (λ (z : Entry). is_changed (written z) key) is ∙ changed)))
+    not_theirs_changed name key has (Prepare new batch) is = refl
+    not_theirs_changed name key has (Commit p) is = false_from_ne_true _ (λ changed.
+        let of : transaction_of history entry ≡ Some (name_at history p) = ap (transaction_of history) is in
+        let its = ((n.transaction (name_at history p) of).2 key (ap (λ (z : Entry). is_changed (changes_under history z) key) is ∙ changed)).1 in
+        let same : name_at history p ≡ name = txn_is (name_at history p) name (sym its ∙ theirs.keys name has.0 key has.1 has.2) in
+        not_theirs_now name (has.0, has.1) (of ∙ ap (λ (z : List ℕ). Some z) same))
+    not_theirs_changed name key has (Undo p batch) is = refl
+    not_theirs_changed name key has (Close p) is = refl
 
     pub others_grow : (fact : Fact) → IsGuarded w.holders fact j → SoIn w q fact → SoPending w d q fact
     others_grow (passed place pair) guard k = clearing_grows (length history) (length grown) w.cache place pair _ longer k
@@ -181,6 +219,8 @@ module _ (w : World) (by : ℕ) (a : Actor) (entry : Entry) (others : List Entry
     others_grow (prior_values name p batch) guard k = prior_grows q theirs name p batch (not_theirs_now name k.0) k
     others_grow (unprepared name) guard k = unprepared_grows q theirs name (not_theirs_now name k.0) k
     others_grow (direct_free key) guard k = direct_grows q theirs key k
+    others_grow (unchanged name key m) guard k = let u = still_unchanged key m (not_theirs_changed name key k.0 entry refl) (k.1, k.2) in (k.0, u.0, u.1)
+    others_grow (locks_stay name p keys) guard k = locks_grow q name p keys k
     others_grow (live_listed floor listed) guard k = (le_trans k.0 longer, k.1)
     others_grow (frozen_stay m versions) guard k = (le_trans k.0 longer, k.1)
     others_grow fact guard k = k

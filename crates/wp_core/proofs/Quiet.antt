@@ -1,5 +1,5 @@
 -- Steps that leave the actor's own participant as it was: what they leave of notes, and all parts where the bound, words or a
--- table of prepared transactions change.
+-- set of prepared transactions change.
 use Rattle.std.proofs.Common.{◌≡◌, ◌≢◌, ℕ, true, false, not, List, length, map, set, refl, sym, subst, ◌∙◌, Some, ◌⊎◌, inl, true≢false, inr}
 use mathlib.Core.Option.{some, some-injective}
 use lib.ListN.{get_elem?}
@@ -64,7 +64,7 @@ noted_after w by a b step so at same notes k s =
     (λ fact left m. record { guarded = m.guarded; is_so = subst (λ (p : Participant). so p fact) (sym same) (k.mine a.participant fact left m.is_so) })
     (λ j x fact ne there m. record { guarded = m.guarded; is_so = k.others j x.0 fact ne m.guarded m.is_so }) s
 
--- ---- the bound and a table of prepared transactions change
+-- ---- the bound and a set of prepared transactions change
 
 pub bound_changes : (w : World) (by : ℕ) (a : Actor) (step : Step) (max : ℕ) (t : PreparedSets) → get_elem? w.actors by ≡ some a → Holds w.holders prepared_turn by → IsHistory w.opened w.writes max → AreDecided w.writes.history w.cache t.delayed_commits max w.snapshots
     → AreUndecided w.writes.history w.writes.pending t max → AreDelayed w.writes.history w.writes.pending t w.cache → AreFlags w.delayed_flag w.old_flag t w.snapshots w.holders.prepared w.holders.snapshots → AreReaders w.writes.history max w.cache t.delayed_commits w.snapshots (map reader_of w.actors)
@@ -86,7 +86,7 @@ pub prepared_changes : (w : World) (by : ℕ) (a : Actor) (step : Step) (t : Pre
     → IsSound (change w by (forgets w.writes.history (length w.cache) step a) (prepared t))
 prepared_changes w by a step t at holds decided undecided delayed flags readers notes s = bound_changes w by a step w.max_evicted t at holds s.history decided undecided delayed flags readers notes s
 
--- ---- words change, and no table
+-- ---- words change, and no state
 
 pub words_change : (w : World) (by : ℕ) (a : Actor) (step : Step) (turn : Turn) (cache : List ℕ) (delayed_flag old_flag : ℕ) → get_elem? w.actors by ≡ some a → Holds w.holders turn by
     → IsCache w.writes.history w.writes.pending cache → AreDecided w.writes.history cache w.prepared.delayed_commits w.max_evicted w.snapshots → AreDelayed w.writes.history w.writes.pending w.prepared cache

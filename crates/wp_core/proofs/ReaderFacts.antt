@@ -111,7 +111,7 @@ old_right history cache commits max snapshots p s c false k decided gone answers
     by_order true is noted = record { by = c; decided = decided; within = grind (arith, nat_tests) }
     by_order false is noted = let above : s < c = grind (arith, nat_tests) in absurd (true≢false (sym (noted above) ∙ there))
 
--- ---- the delayed tables
+-- ---- what is delayed
 
 pub delayed_right : (history pending : List Entry) (t : PreparedSets) (cache : List ℕ) (p s : ℕ) → AreDelayed history pending t cache → set.contains t.delayed p ≡ true → finite.get t.delayed_commits p ≡ None → (IsCommittedAt history p s → cached cache p ≡ None) → IsCommittedAt history p s → ⊥
 delayed_right history pending t cache p s k there none gone is =

@@ -11,10 +11,10 @@ use Rattle.wp_model.specs.declared.holder.Holder.TheVariants.{Txn, Client}
 use Rattle.wp_model.specs.LockState.{LockState}
 use Rattle.wp_core.specs.States.{WriteState, Installed}
 use Rattle.wp_model.specs.Flushed.{InstalledEdit}
-use Rattle.wp_core.specs.Views.{Account, own, another, prepare_at, Event, claimed, took, locked, told, heard, installed, renewed, log_failed, log_stopped, tables_failed, stopped, found_edit, found}
+use Rattle.wp_core.specs.Views.{Account, own, another, prepare_at, Event, claimed, took, locked, told, heard, installed, renewed, log_failed, log_stopped, tables_failed, stopped, based_at, found_edit, found}
 use Rattle.wp_core.specs.World.{Actor}
 use Rattle.wp_core.specs.Sound.Actors.{participants_of, IsParticipantAt}
-use Rattle.wp_core.specs.Sound.Pasts.{past_of, HasDone, IsPast, HasBegun, MadeHolder, IsAccounted, WasLocked, AreHolders, IsBoard, closes_log, is_tables_fault, AreFaults, raised_to, WasInstalled, WasPlaced, WasBased, due_after, tables_due, last_after, last_installed, OtherDid, OtherInstalls, OtherCompacts, AreEdits}
+use Rattle.wp_core.specs.Sound.Pasts.{past_of, HasDone, IsPast, HasBegun, MadeHolder, IsAccounted, WasLocked, AreHolders, IsBoard, closes_log, is_tables_fault, NoneBetween, AreFaults, raised_to, WasInstalled, WasPlaced, WasBased, due_after, tables_due, last_after, last_installed, OtherDid, OtherInstalls, OtherCompacts, AreEdits}
 use Rattle.wp_core.proofs.AllParticipants.{mine, was_apart}
 use Rattle.wp_core.proofs.PastsGrow.{at_place, done_still, done_before, past_still, past_last, past_before, times_more}
 
@@ -25,10 +25,11 @@ pub record IsQuiet (e : Event) : Type 0 where
   pub due : (n : ℕ) → due_after n e ≡ n
   pub last : (edit : InstalledEdit) → last_after edit e ≡ edit
 
--- it finds no holder, no closed log and no edit
+-- it finds no holder, no closed log, no base and no edit
 abbrev pub FindsNothing : Event → Type 0
 FindsNothing (found key holder seen account) = ⊥
 FindsNothing (stopped n) = ⊥
+FindsNothing (based_at n base) = ⊥
 FindsNothing (found_edit n base tables due halted) = ⊥
 FindsNothing e = Unit {0}
 
@@ -39,7 +40,7 @@ TellsNothing (heard label n) = ⊥
 TellsNothing e = Unit {0}
 
 -- what leaves each last edit raises no flushed number
-not_raised : (e : Event) (edit : InstalledEdit) → ((x : InstalledEdit) → last_after x e ≡ x) → (n : ℕ) → raised_to e ≡ Some n → ⊥
+pub not_raised : (e : Event) (edit : InstalledEdit) → ((x : InstalledEdit) → last_after x e ≡ x) → (n : ℕ) → raised_to e ≡ Some n → ⊥
 not_raised (installed new false) edit last n is = one_edit new edit last
   where
     one_edit : (new edit : InstalledEdit) → ((x : InstalledEdit) → new ≡ x) → ⊥
@@ -128,14 +129,29 @@ module _ (xs : List Actor) (by : ℕ) (a b : Actor) (e : Event) (at : get_elem? 
   pub board_still : (published : ℕ) (t : LockState) → TellsNothing e → IsBoard published t before → IsBoard published t after
   board_still published t nothing k = board_more published t (λ label n q. absurd (⊎_elim (λ (r : e ≡ told label n). subst TellsNothing r nothing) (λ (r : e ≡ heard label n). subst TellsNothing r nothing) q)) (λ label n q. absurd (subst TellsNothing q nothing)) (λ label n q. subst TellsNothing q nothing) k
 
+  -- where it is a renewal, its base is no lower than what is published
+  abbrev pub RenewsAbove : WriteState → Type 0
+  RenewsAbove writes = (edit : InstalledEdit) → e ≡ renewed edit → length writes.history ≤ edit.segment.base
+
+  pub bases_still : (writes : WriteState) → RenewsAbove writes → (n base : ℕ) → (n ≤ length writes.history) × NoneBetween before base n → (n ≤ length writes.history) × NoneBetween after base n
+  bases_still writes above n base k = let few = k.0 in (
+    few,
+    λ edit there below. ⊎_elim
+        (λ c. k.1 edit c below)
+        (λ (q : e ≡ renewed edit). let low = above edit q in absurd (omega (arith, low, few, below)))
+        (past_before xs by a b e at same grown (renewed edit) there),
+  )
+
   pub faults_more : (writes : WriteState) (halted : Bool) → closes_log e ≡ false → is_tables_fault e ≡ false → ((n : ℕ) → e ≡ stopped n → (writes.closed ≡ true) × (n ≡ length writes.history))
-      → AreFaults writes halted before → AreFaults writes halted after
-  faults_more writes halted open_ working new k = record {
+      → ((n base : ℕ) → e ≡ based_at n base → (n ≤ length writes.history) × NoneBetween before base n) → RenewsAbove writes → AreFaults writes halted before → AreFaults writes halted after
+  faults_more writes halted open_ working new filled above k = record {
     log = times_more xs by a b e at same grown closes_log ∙ rw open_ (let z = k.log in omega (arith, z));
     tables = times_more xs by a b e at same grown is_tables_fault ∙ rw working (let z = k.tables in omega (arith, z));
     not_logged = k.not_logged;
     stopped = λ n h. ⊎_elim (λ c. k.stopped n c) (λ c. new n c) (past_before xs by a b e at same grown (stopped n) h);
+    based = λ n base h. bases_still writes above n base (⊎_elim (λ c. k.based n base c) (λ c. filled n base c) (past_before xs by a b e at same grown (based_at n base) h));
     failed = λ entries h. ⊎_elim (λ c. k.failed entries c) (λ (q : e ≡ log_failed entries). absurd (true≢false (sym (ap closes_log q) ∙ open_))) (past_before xs by a b e at same grown (log_failed entries) h);
+    renewing = k.renewing;
     of_log = λ entries h. ⊎_elim (λ c. k.of_log entries c) (λ (q : e ≡ log_failed entries). absurd (true≢false (sym (ap closes_log q) ∙ open_))) (past_before xs by a b e at same grown (log_failed entries) h);
     behind = λ h. ⊎_elim (λ c. k.behind c) (λ (q : e ≡ log_stopped). absurd (true≢false (sym (ap closes_log q) ∙ open_))) (past_before xs by a b e at same grown log_stopped h);
     unfailed = λ h. ⊎_elim (λ c. k.unfailed c) (λ (q : e ≡ log_stopped). absurd (true≢false (sym (ap closes_log q) ∙ open_))) (past_before xs by a b e at same grown log_stopped h);
@@ -172,12 +188,19 @@ module _ (xs : List Actor) (by : ℕ) (a b : Actor) (e : Event) (at : get_elem? 
   abbrev pub AreFound : InstalledEdit → Type 0
   AreFound first = (n base tables due : ℕ) (halted : Bool) → e ≡ found_edit n base tables due halted → WasInstalled first before n × WasBased first before base × (tables < due → OtherCompacts before by 0)
 
+  -- ... and of a base
+  abbrev pub AreBased : InstalledEdit → Type 0
+  AreBased first = (n base : ℕ) → e ≡ based_at n base → WasBased first before base
+
   -- what the edits need, where the last one may be another, and more tables may be due
   pub record EditsGrow (first : InstalledEdit) (t u : Installed) : Type 0 where
     pub last : WasInstalled first after u.last.flushed
     pub placed : WasPlaced first after u.last.segment
     pub rises : t.last.flushed ≤ u.last.flushed
     pub new : (n : ℕ) → raised_to e ≡ Some n → n ≤ u.last.flushed
+    pub based : AreBased first
+    pub base_rises : t.last.segment.base ≤ u.last.segment.base
+    pub renews : (edit : InstalledEdit) → e ≡ renewed edit → (first.segment.base ≤ edit.segment.base) × (edit.segment.base ≤ u.last.segment.base)
     pub found : AreFound first
     pub its_edit : t.last ≡ last_installed first a.participant.past → u.last ≡ last_installed first b.participant.past
     pub their_edit : (j i : ℕ) (past : List Event) → (j ≢ by) ⊎ (i ≢ 0) → t.last ≡ last_installed first past → (u.last ≡ last_installed first past) ⊎ OtherInstalls after j i
@@ -206,8 +229,13 @@ module _ (xs : List Actor) (by : ℕ) (a b : Actor) (e : Event) (at : get_elem? 
     last = g.last;
     rises = risen first t u g k;
     placed = g.placed;
+    risen = λ edit h. ⊎_elim
+        (λ c. let was = k.risen edit c in let more = g.base_rises in let low = was.0 in let high = was.1 in (low, omega (arith, high, more)))
+        (λ (q : e ≡ renewed edit). g.renews edit q)
+        (past_before xs by a b e at same grown (renewed edit) h);
     found = λ n base tables due halted h. installed_still first n (⊎_elim (λ c. k.found n base tables due halted c) (λ c. (g.found n base tables due halted c).0) (past_before xs by a b e at same grown (found_edit n base tables due halted) h));
     found_base = λ n base tables due halted h. based_still first base (⊎_elim (λ c. k.found_base n base tables due halted c) (λ c. (g.found n base tables due halted c).1) (past_before xs by a b e at same grown (found_edit n base tables due halted) h));
+    based = λ n base h. based_still first base (⊎_elim (λ c. k.based n base c) (λ c. g.based n base c) (past_before xs by a b e at same grown (based_at n base) h));
     few = few_more first t g.found k;
     edit = λ j i past there. ⊎_elim
         (λ (c : (j ≡ by) × (i ≡ 0) × (past ≡ b.participant.past)).
@@ -242,13 +270,16 @@ module _ (xs : List Actor) (by : ℕ) (a b : Actor) (e : Event) (at : get_elem? 
   }
 
   -- the same where the event installs nothing and is no fault of the tables' devices
-  pub edits_still : (first : InstalledEdit) (t : Installed) → ((n : ℕ) → due_after n e ≡ n) → ((edit : InstalledEdit) → last_after edit e ≡ edit) → is_tables_fault e ≡ false → AreFound first
+  pub edits_still : (first : InstalledEdit) (t : Installed) → ((n : ℕ) → due_after n e ≡ n) → ((edit : InstalledEdit) → last_after edit e ≡ edit) → is_tables_fault e ≡ false → AreFound first → AreBased first
       → ((n base tables due : ℕ) → e ≡ found_edit n base tables due true → (t.halted ≡ true) × (n ≡ t.last.flushed)) → AreEdits first t before → AreEdits first t after
-  edits_still first t due last working is_so halted_so k = edits_grown first t t record {
+  edits_still first t due last working is_so based_so halted_so k = edits_grown first t t record {
     last = installed_still first t.last.flushed k.last;
     placed = placed_still first t.last.segment k.placed;
     rises = omega arith;
     new = λ n q. absurd (not_raised e first last n q);
+    based = based_so;
+    base_rises = omega arith;
+    renews = λ edit q. absurd (not_raised e first last edit.flushed (ap raised_to q));
     found = is_so;
     its_edit = λ d. d ∙ sym (last_same first last);
     their_edit = λ j i past elsewhere d. inl d;
@@ -260,5 +291,5 @@ module _ (xs : List Actor) (by : ℕ) (a b : Actor) (e : Event) (at : get_elem? 
     none_failed = k.none_failed;
   } k
 
-  pub edits_more : (first : InstalledEdit) (t : Installed) → IsQuiet e → AreFound first → ((n base tables due : ℕ) → e ≡ found_edit n base tables due true → (t.halted ≡ true) × (n ≡ t.last.flushed)) → AreEdits first t before → AreEdits first t after
-  edits_more first t quiet is_so halted_so k = edits_still first t quiet.due quiet.last quiet.tables is_so halted_so k
+  pub edits_more : (first : InstalledEdit) (t : Installed) → IsQuiet e → AreFound first → AreBased first → ((n base tables due : ℕ) → e ≡ found_edit n base tables due true → (t.halted ≡ true) × (n ≡ t.last.flushed)) → AreEdits first t before → AreEdits first t after
+  edits_more first t quiet is_so based_so halted_so k = edits_still first t quiet.due quiet.last quiet.tables is_so based_so halted_so k

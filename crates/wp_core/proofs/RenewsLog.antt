@@ -12,9 +12,9 @@ use Rattle.wp_core.specs.Steps.{renew, use_segment}
 use Rattle.wp_core.specs.Effects.{done}
 use Rattle.wp_core.specs.Needs.{Needs}
 use Rattle.wp_core.specs.Notes.{forgets}
-use Rattle.wp_core.specs.Sound.Pasts.{AreFaults, AreEdits, tables_due}
+use Rattle.wp_core.specs.Sound.Pasts.{past_of, IsPast, AreFaults, AreEdits, tables_due}
 use Rattle.wp_core.specs.Sound.Segments.{AreCoupled}
-use Rattle.wp_core.specs.IsSound.{IsSound}
+use Rattle.wp_core.specs.IsSound.{IsSound, participants}
 use Rattle.wp_core.proofs.AllParts.{SoIn}
 use Rattle.wp_core.proofs.InstallsEdit.{due_more, last_more}
 use Rattle.wp_core.proofs.PastsGrow.{done_last, past_last, past_before}
@@ -52,8 +52,22 @@ module _ (w : World) (by : ℕ) (a : Actor) (edit : InstalledEdit) (at : get_ele
     next = s.coupled.next;
   }
 
+  -- its base is what is published
+  at_end : edit.segment.base ≡ length w.writes.history
+  at_end = (s.coupled.next edit.segment n.3.2).0
+
+  -- so it is no lower than the one before, which is not below the opening's
+  up : w.installed.last.segment.base ≤ edit.segment.base
+  up = let next = at_end in let low = s.versions.last.base in let high = s.versions.last.flushed in omega (arith, next, low, high)
+
+  not_below : w.first_edit.segment.base ≤ w.installed.last.segment.base
+  not_below = ⊎_elim
+      (λ (same : w.installed.last.segment ≡ w.first_edit.segment). let base = ap (λ (x : Segment). x.base) same in omega (arith, base))
+      (λ (k : (x : InstalledEdit) × (x.segment ≡ w.installed.last.segment) × IsPast (participants past_of w) (renewed x)). let was = (s.edits.risen k.0 k.2).0 in let base = ap (λ (x : Segment). x.base) k.1 in omega (arith, was, base))
+      s.edits.placed
+
   faults_renewed : AreFaults w.writes w.installed.halted after
-  faults_renewed = faults_more w.actors by a c e at refl refl w.writes w.installed.halted refl refl (λ m q. absurd cc) s.faults
+  faults_renewed = faults_more w.actors by a c e at refl refl w.writes w.installed.halted refl refl (λ m q. absurd cc) (λ m base q. absurd cc) (λ x q. let same : edit.segment.base ≡ x.segment.base = cc in let next = at_end in omega (arith, same, next)) s.faults
 
   -- it has as many tables as before, at least
   due_still : tables_due w.first_edit a.participant.past ≤ w.installed.last.tables → tables_due w.first_edit (a.participant.past ++ e ∷ []) ≤ edit.tables
@@ -65,6 +79,9 @@ module _ (w : World) (by : ℕ) (a : Actor) (edit : InstalledEdit) (at : get_ele
     placed = inr (edit, refl, past_last w.actors by a c e at refl refl);
     rises = let low = s.versions.last.flushed in let is = n.3.3 in omega (arith, low, is);
     new = λ m q. let same : edit.flushed ≡ m = same_some edit.flushed m q in omega (arith, same);
+    based = λ m base q. absurd cc;
+    base_rises = up;
+    renews = λ x q. let same : edit.segment.base ≡ x.segment.base = cc in let low = not_below in let high = up in (omega (arith, same, low, high), omega (arith, same));
     found = λ m base tables due halted q. absurd cc;
     its_edit = λ same. sym (last_more w.first_edit a.participant.past e);
     their_edit = λ j i past apart same. inr (e, refl, (by, 0, ⊎_elim (λ (ne : j ≢ by). inl (λ q. ne (sym q))) (λ (ne : i ≢ 0). inr (λ q. ne (sym q))) apart, done_last w.actors by a c e at refl refl));
@@ -99,7 +116,7 @@ uses_segment w by a at n s =
     log_changes w by a use_segment w.writes.pending w.writes.logged w.writes.log segment None at n.0
     (record { legal = k.legal; grown = k.grown; bounded = k.bounded; log = k.log; rest = k.rest; legal_next = k.legal_next; legal_failed = k.legal_failed; none_failed = k.none_failed; not_stopped = k.not_stopped; undo_closes = k.undo_closes })
     s.cache s.undecided s.delayed s.versions
-    (record { log = s.faults.log; tables = s.faults.tables; not_logged = s.faults.not_logged; stopped = s.faults.stopped; failed = s.faults.failed; of_log = s.faults.of_log; behind = s.faults.behind; unfailed = s.faults.unfailed })
+    (record { log = s.faults.log; tables = s.faults.tables; not_logged = s.faults.not_logged; stopped = s.faults.stopped; based = s.faults.based; failed = s.faults.failed; renewing = λ closed. absurd (true≢false (sym closed ∙ n.1)); of_log = s.faults.of_log; behind = s.faults.behind; unfailed = s.faults.unfailed })
     (record {
       last = inl is_next;
       failed = λ edit q. inl (⊎_elim (λ (same : edit.segment ≡ w.installed.last.segment). same) (λ (next : w.writes.next ≡ Some edit.segment). same_some edit.segment w.installed.last.segment (sym next ∙ n.2)) (s.coupled.failed edit q));

@@ -74,6 +74,7 @@ module _ (xs : List Actor) (by : ℕ) (a b : Actor) (at : get_elem? xs by ≡ so
         (λ (c : (o.at ≡ by) × (o.place ≡ 0) × (o.owner ≡ owner_of a.participant)). absurd (no_direct a.participant.transactions a.participant.direct key before_none (subst (λ (z : Owner). z.direct ≡ Some key) c.2 o.has)))
         (λ (c : IsParticipantAt after o.at o.place o.owner). record { at = o.at; place = o.place; owner = o.owner; there = c; client_is = o.client_is; has = o.has; began = o.began })
         (still owner_of xs by a b at same o.at o.place o.owner o.there);
+    unchanged = k.unchanged;
   }
 
 -- what one noted that has nothing speaks of no client

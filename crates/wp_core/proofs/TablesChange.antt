@@ -27,7 +27,7 @@ abbrev pub SoInstalled : World → Installed → Participant → Fact → Type 0
 SoInstalled w t = IsSo w.delayed_flag w.old_flag w.max_evicted w.cache w.writes w.prepared w.snapshots w.store w.locks t
 
 module _ (w : World) (by : ℕ) (a : Actor) (step : Step) (e : Event) (t : Installed) where
-  -- the actor before it knows the table
+  -- the actor before it knows the state
   abbrev pub actor_then : Actor
   actor_then = remembers (forgets w.writes.history (length w.cache) step a) e
 

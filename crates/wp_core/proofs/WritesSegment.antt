@@ -29,7 +29,7 @@ writes_segment w by a place at n s =
     log_changes w by a (write_segment place) w.writes.pending w.writes.logged w.writes.log w.writes.segment (Some written) at n.0
     (record { legal = k.legal; grown = k.grown; bounded = k.bounded; log = k.log; rest = k.rest; legal_next = k.legal_next; legal_failed = k.legal_failed; none_failed = k.none_failed; not_stopped = k.not_stopped; undo_closes = k.undo_closes })
     s.cache s.undecided s.delayed s.versions
-    (record { log = s.faults.log; tables = s.faults.tables; not_logged = s.faults.not_logged; stopped = s.faults.stopped; failed = s.faults.failed; of_log = s.faults.of_log; behind = s.faults.behind; unfailed = s.faults.unfailed })
+    (record { log = s.faults.log; tables = s.faults.tables; not_logged = s.faults.not_logged; stopped = s.faults.stopped; based = s.faults.based; failed = s.faults.failed; renewing = s.faults.renewing; of_log = s.faults.of_log; behind = s.faults.behind; unfailed = s.faults.unfailed })
     (record {
       last = in_use;
       failed = λ edit q. ⊎_elim (λ (same : edit.segment ≡ w.installed.last.segment). inl same) (λ (next : w.writes.next ≡ Some edit.segment). absurd (none_some w.writes.next edit.segment n.3 next)) (s.coupled.failed edit q);

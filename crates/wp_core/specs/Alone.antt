@@ -1,4 +1,4 @@
--- An actor that is alone: no other did anything, so the tables of the world are as it left them.
+-- An actor that is alone: no other did anything, so the states of the world are as it left them.
 use Rattle.std.specs.Prelude.{◌≡◌, ℕ, List, [], Some}
 use mathlib.Core.Option.{some}
 use lib.ListN.{get_elem?}
@@ -19,8 +19,8 @@ pub record IsAlone (w : World) (a : Actor) : Type 0 where
   pub joined : a.joined ≡ []
 
 -- What the one participant that did something has of the world. It published each number since the opening; the log is closed, and
--- the tables are halted, just where it met the fault or stopped it; the last edit is the last one that it installed; what a client has of names
--- and keys is its own; each label was told by it; and each live number is registered by it.
+-- the tables are halted, just where it met the fault or stopped it; the last edit is the last one that it installed; what a client has
+-- of names and keys is its own; each label was told by it; and each live number is registered by it.
 pub record IsOnlyOf (w : World) (p : Participant) : Type 0 where
   pub owned : (n : ℕ) → times n p.own ≡ once w.opened w.writes.history n
   pub closed : total (λ e. one_if (closes_log e)) p.past ≡ one_if w.writes.closed

@@ -1,4 +1,4 @@
--- What steps change: an actor, a table that it holds, what it has loaded.
+-- What steps change: an actor, a state that it holds, what it has loaded.
 use Rattle.std.specs.Prelude.{ℕ, ◌+◌, ◌==◌, ◌&&◌, Bool, true, false, not, List, [], ◌∷◌, ◌++◌, filter, slice_set, Option, Some, None, if◌then◌else◌}
 use Rattle.std.specs.List.{list_any}
 use Rattle.std.specs.Option.{option_map_or}
@@ -38,7 +38,7 @@ turn_index store_turn = 3
 turn_index locks_turn = 4
 turn_index tables_turn = 5
 
--- what is held, with this in place of the table of the same turn
+-- what is held, with this in place of the state of the same turn
 abbrev pub held_with : List Content → Content → List Content
 held_with [] c = []
 held_with (first ∷ others) c = if turn_index (turn_of first) == turn_index (turn_of c) then c ∷ others else first ∷ held_with others c
@@ -46,7 +46,7 @@ held_with (first ∷ others) c = if turn_index (turn_of first) == turn_index (tu
 abbrev pub held_without : List Content → Turn → List Content
 held_without held turn = filter (λ c. not (turn_index (turn_of c) == turn_index turn)) held
 
--- the table changes, and the actor that holds it knows it so
+-- the state changes, and the actor that holds it knows it so
 abbrev pub change : World → ℕ → Actor → Content → World
 change w by a c = with_actor (with_content w c) by (record a { held = held_with a.held c })
 

@@ -1,11 +1,11 @@
 -- Conditions of steps, each by itself.
-use Rattle.std.specs.Prelude.{◌≡◌, ◌≢◌, ◌⊎◌, ℕ, suc, ◌≤◌, true, false, List, [], ◌∷◌, ◌++◌, Some, is_some, map, Option, None}
+use Rattle.std.specs.Prelude.{◌≡◌, ◌≢◌, ◌⊎◌, ℕ, suc, ◌≤◌, ◌<◌, true, false, List, [], ◌∷◌, ◌++◌, Some, is_some, map, Option, None}
 use Rattle.std.specs.FinSet as set
 use Rattle.std.specs.FinMap as finite
 use Rattle.wp_model.specs.declared.change.Change.{Change}
 use Rattle.wp_model.specs.declared.entry.Entry.{Entry}
 use Rattle.wp_model.specs.declared.entry.Entry.TheVariants.{Prepare}
-use Rattle.wp_model.specs.History.{is_changed}
+use Rattle.wp_model.specs.History.{is_changed, named}
 use Rattle.wp_model.specs.Legal.{IsLegal}
 use Rattle.wp_model.specs.declared.version.Version.{Version}
 use Rattle.wp_model.specs.Versions.{version_at}
@@ -25,7 +25,7 @@ use Rattle.wp_judge.specs.declared.observed.Asked.TheVariants as asked
 use Rattle.wp_judge.specs.Order.{ask}
 use Rattle.wp_core.specs.Views.{Account, own, another, prepare_at}
 use Rattle.wp_core.specs.World.{Transaction, Actor, World, published}
-use Rattle.wp_core.specs.Entries.{pair_by, pending_pair, transaction_of, changes_under}
+use Rattle.wp_core.specs.Entries.{pair_by, pending_pair, transaction_of, changes_under, written}
 use Rattle.wp_core.specs.Sound.Actors.{IsParticipantAt, participants_of}
 use Rattle.wp_core.specs.Sound.Locks.{Owner, owner_of}
 use Rattle.wp_core.specs.Sound.Prepared.{IsInOldCommits, IsEntered}
@@ -38,7 +38,7 @@ use Rattle.wp_core.specs.Sound.Views.{IsApart, IsInMemory, IsNowhere, IsUndelaye
 abbrev pub MayBeSmallest : World → ℕ → ℕ → Type 0
 MayBeSmallest w by least = (least ≡ 1) ⊎ (Holds w.holders prepared_turn by × (least ≤ suc (published w)) × ((p : ℕ) → is_prepared w.prepared p ≡ true → least ≤ p))
 
--- a look into a table needs its turn
+-- a look into a state needs its turn
 abbrev pub MayLook : World → ℕ → Load → Type 0
 MayLook w by InPrepared = Holds w.holders prepared_turn by
 MayLook w by IsOldCommit = Holds w.holders snapshots_turn by
@@ -52,10 +52,10 @@ IsNextLoad w by a which = (r : Observed) × (a.reading ≡ Some r) × (ask r ≡
 abbrev pub HasTransaction : Actor → List ℕ → Transaction → Type 0
 HasTransaction a name t = finite.get a.participant.transactions name ≡ Some t
 
--- the key is held for the actor: for its direct write, or for a transaction of it
+-- the key is held for the actor: for its direct write, or for a transaction of it that is not prepared
 abbrev pub IsHeldFor : World → Actor → List ℕ → Type 0
 IsHeldFor w a key = ((a.participant.direct ≡ Some key) × (finite.get w.locks.keys key ≡ Some (Client a.participant.client)))
-    ⊎ ((name : List ℕ) × (t : Transaction) × HasTransaction a name t × (finite.get w.locks.keys key ≡ Some (Txn name)))
+    ⊎ ((name : List ℕ) × (t : Transaction) × HasTransaction a name t × (finite.get w.locks.keys key ≡ Some (Txn name)) × (named w.writes.history name ≡ None))
 
 -- the entry's transaction is the actor's, and its keys are held for it
 abbrev pub IsOwn : World → Actor → Entry → Type 0
@@ -67,8 +67,8 @@ abbrev pub IsPrepare : Entry → Type 0
 IsPrepare (Prepare name batch) = Unit {0}
 IsPrepare other = ⊥
 
--- The first of the pending entries may be published: it is logged and legal; its versions are in memory; its keys are held
--- for the actor; the transaction that it is of is the actor's; a Prepare's number is in the prepared heap, and the pair
+-- The first of the pending entries may be published: it is logged and legal; its versions are in memory; the keys of a Write are
+-- held for the actor; the transaction that it is of is the actor's; a Prepare's number is in the prepared heap, and the pair
 -- of any other entry is where a reader finds it.
 pub record MayPublish (w : World) (by : ℕ) (a : Actor) (entry : Entry) (others : List Entry) : Type 0 where
   pub turn : Holds w.holders write_turn by
@@ -76,7 +76,7 @@ pub record MayPublish (w : World) (by : ℕ) (a : Actor) (entry : Entry) (others
   pub logged : w.writes.logged ≡ true
   pub legal : IsLegal (w.writes.history ++ entry ∷ [])
   pub versions : IsInMemory w.writes w.store
-  pub keys : (key : List ℕ) → is_changed (changes_under w.writes.history entry) key ≡ true → IsHeldFor w a key
+  pub keys : (key : List ℕ) → is_changed (written entry) key ≡ true → IsHeldFor w a key
   pub transaction : IsOwn w a entry
   pub number : IsPrepare entry → set.contains w.prepared.heap (suc (published w)) ≡ true
   pub pair : (pair : CommitPair) → pair_by (suc (published w)) entry ≡ Some pair → IsEntered w.cache w.prepared.delayed_commits w.max_evicted pair
@@ -92,8 +92,8 @@ pub record MayBeEvicted (w : World) (pair : CommitPair) : Type 0 where
 abbrev pub NoneNext : WriteState → Type 0
 NoneNext t = (t.next ≡ None) ⊎ (t.closed ≡ true)
 
--- a turn is given with nothing pending and no segment that waits, with its flag down where its tables are empty, and with the last
--- edit's tables
+-- a turn is given with nothing pending and no segment that waits, with its flag down where what it tells of is empty, and
+-- with the last edit's tables
 abbrev pub MayGive : World → Turn → Type 0
 MayGive w write_turn = (w.writes.pending ≡ []) × NoneNext w.writes
 MayGive w prepared_turn = NoneDelayed w.prepared → w.delayed_flag ≡ 0
@@ -107,12 +107,12 @@ MayGive w other = Unit {0}
 abbrev pub MayLog : World → ℕ → Type 0
 MayLog w by = Holds w.holders write_turn by × (w.writes.pending ≢ []) × (w.writes.logged ≡ false) × (w.writes.closed ≡ false)
 
--- The log is not closed. Something is pending that is not logged; or nothing is pending, and the last edit does not name the next
--- segment.
+-- The log is not closed. Something is pending that is not logged; or nothing is pending, the last edit does not name the next segment,
+-- and there was something to renew: more is published than the log's base.
 abbrev pub MayClose : World → ℕ → Type 0
 MayClose w by =
     Holds w.holders write_turn by × (w.writes.closed ≡ false)
-    × (((w.writes.pending ≢ []) × (w.writes.logged ≡ false)) ⊎ ((w.writes.pending ≡ []) × (w.writes.next ≢ Some w.installed.last.segment)))
+    × (((w.writes.pending ≢ []) × (w.writes.logged ≡ false)) ⊎ ((w.writes.pending ≡ []) × (w.writes.next ≢ Some w.installed.last.segment) × (w.writes.segment.base < published w)))
 
 -- nothing is pending, the log is not closed, no other segment waits, and this is not the place of the one in use
 abbrev pub MayWriteSegment : World → ℕ → ℕ → Type 0
@@ -163,7 +163,7 @@ KeepsStore w store installed = IsStored w.writes.history w.writes.pending w.firs
 
 -- ---- the locks turn
 
--- the table has the holder of the key; where no key is given, the holder is a live name
+-- the state has the holder of the key; where no key is given, the holder is a live name
 abbrev pub IsHolder : World → Option (List ℕ) → Holder → Type 0
 IsHolder w (Some key) holder = finite.get w.locks.keys key ≡ Some holder
 IsHolder w None holder = (name : List ℕ) × (holder ≡ Txn name) × (is_some (finite.get w.locks.names name) ≡ true)

@@ -10,14 +10,14 @@ use Rattle.wp_core.specs.Cache.{with_pair}
 use Rattle.wp_core.specs.States.{WriteState, Installed, writes, prepared, snapshots, store, locks, installed, without_prepared, with_moved}
 use Rattle.wp_model.specs.Flushed.{InstalledEdit}
 use Rattle.wp_core.specs.Reading.{reads}
-use Rattle.wp_core.specs.Views.{claimed, took, locked, told, heard, renewed, log_failed, log_stopped, tables_failed, stopped, found_edit, found}
+use Rattle.wp_core.specs.Views.{claimed, took, locked, told, heard, renewed, log_failed, log_stopped, tables_failed, stopped, based_at, found_edit, found}
 use Rattle.wp_core.specs.Views as event
 use Rattle.wp_core.specs.World.{Actor, new_actor, World, published, content_of}
-use Rattle.wp_core.specs.Steps.{Step, load_published, register, begin_reading, load, end_reading, store_published, store_max_evicted, store_word, store_delayed_flag, store_old_flag, take_turn, give_turn, make_pending, log_pending, close_log, find_log_closed, drop_pending, write_segment, use_segment, stop_log, add_prepared, take_pending_prepared, add_delayed_commit, delay_pending, take_out, register_again, release, add_old_commit, add_versions, take_versions, move_versions, replace_versions, install, renew, halt, find_edit, claim_name, take_name, leave_name, free_transaction, lock_key, free_key, lock_direct, free_direct, find_holder, tell, hear, set_batch, note, make_note, make_seat, set_client, learn, join_seat}
+use Rattle.wp_core.specs.Steps.{Step, load_published, register, begin_reading, load, end_reading, store_published, store_max_evicted, store_word, store_delayed_flag, store_old_flag, take_turn, give_turn, make_pending, log_pending, close_log, find_log_closed, find_base, drop_pending, write_segment, use_segment, stop_log, add_prepared, take_pending_prepared, add_delayed_commit, delay_pending, take_out, register_again, release, add_old_commit, add_versions, take_versions, move_versions, replace_versions, install, renew, halt, find_edit, claim_name, take_name, leave_name, free_transaction, lock_key, free_key, lock_direct, free_direct, find_holder, tell, hear, set_batch, note, make_note, make_seat, set_client, learn, join_seat}
 use Rattle.wp_core.specs.Sound.Pasts.{tables_due}
 use Rattle.wp_core.specs.Changes.{with_actor, held_without, change, sees, remembers, registers, releases, has_transaction, has_no_transaction, has_direct, loaded, with_registered, with_released, with_old_commit, keys_of_holder, with_name, with_key, without_key, without_transaction, with_label, informed, joins, joined_actor, made_one}
 
--- ---- tables
+-- ---- states
 
 -- the entry is published, and those after it in its record are pending
 abbrev pub with_entry : WriteState → Entry → List Entry → WriteState
@@ -49,6 +49,7 @@ done w by a (make_pending entries) = change w by a (writes (record w.writes { pe
 done w by a log_pending = change w by a (writes (record w.writes { logged = true; log = w.writes.log ++ w.writes.pending }))
 done w by a close_log = change w by (remembers a (log_failed w.writes.pending)) (writes (record w.writes { closed = true; failed = w.writes.pending }))
 done w by a find_log_closed = with_actor w by (remembers a (stopped (published w)))
+done w by a find_base = with_actor w by (remembers a (based_at (published w) w.writes.segment.base))
 done w by a drop_pending = change w by a (writes (record w.writes { pending = [] }))
 done w by a (write_segment place) = change w by a (writes (record w.writes { next = Some (record { place = place; base = published w }) }))
 done w by a use_segment = change w by a (writes (record w.writes { segment = unwrap_or w.writes.next w.writes.segment; next = None }))

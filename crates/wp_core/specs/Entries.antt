@@ -45,6 +45,11 @@ transaction_of history (Commit p) = Some (name_at history p)
 transaction_of history (Undo p batch) = Some (name_at history p)
 transaction_of history (Close p) = Some (name_at history p)
 
+-- the changes of a Write, which is of no transaction
+abbrev pub written : Entry → List Change
+written (Write batch) = batch
+written other = []
+
 -- the changes whose keys an entry needs
 abbrev pub changes_under : List Entry → Entry → List Change
 changes_under history (Write batch) = batch

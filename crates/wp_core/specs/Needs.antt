@@ -18,7 +18,7 @@ use Rattle.wp_model.specs.PreparedSets.{NoneDelayed}
 use Rattle.wp_core.specs.World.{Transaction, Actor, World, published}
 use Rattle.wp_model.specs.Record.{IsOneRecord}
 use Rattle.wp_core.specs.Entries.{next_of, pending_pair, batch_of_name, HasVersionsAt}
-use Rattle.wp_core.specs.Steps.{Step, load_published, register, begin_reading, load, end_reading, store_published, store_max_evicted, store_word, store_delayed_flag, store_old_flag, take_turn, give_turn, make_pending, log_pending, close_log, find_log_closed, drop_pending, write_segment, use_segment, stop_log, add_prepared, take_pending_prepared, add_delayed_commit, delay_pending, take_out, register_again, release, add_old_commit, add_versions, take_versions, move_versions, replace_versions, install, renew, halt, find_edit, claim_name, take_name, leave_name, free_transaction, lock_key, free_key, lock_direct, free_direct, find_holder, tell, hear, set_batch, note, make_note, make_seat, set_client, learn, join_seat}
+use Rattle.wp_core.specs.Steps.{Step, load_published, register, begin_reading, load, end_reading, store_published, store_max_evicted, store_word, store_delayed_flag, store_old_flag, take_turn, give_turn, make_pending, log_pending, close_log, find_log_closed, find_base, drop_pending, write_segment, use_segment, stop_log, add_prepared, take_pending_prepared, add_delayed_commit, delay_pending, take_out, register_again, release, add_old_commit, add_versions, take_versions, move_versions, replace_versions, install, renew, halt, find_edit, claim_name, take_name, leave_name, free_transaction, lock_key, free_key, lock_direct, free_direct, find_holder, tell, hear, set_batch, note, make_note, make_seat, set_client, learn, join_seat}
 use Rattle.wp_core.specs.Effects.{with_failed}
 use Rattle.wp_core.specs.Sound.Prepared.{IsPassed}
 use Rattle.wp_core.specs.Sound.Snapshots.{has_versions_at}
@@ -27,7 +27,7 @@ use Rattle.wp_core.specs.Conditions.{MayBeSmallest, IsNextLoad, HasTransaction, 
 
 abbrev pub Needs : World → ℕ → Actor → Step → Type 0
 -- a reading is of a version of the history at a snapshot of the actor's own, by as many bits as the cache has; it loads in its order,
--- and looks into a table under its turn
+-- and looks into a state under its turn
 Needs w by a load_published = Unit {0}
 Needs w by a (register least) = Holds w.holders snapshots_turn by × MayBeSmallest w by least
 Needs w by a (begin_reading bits p snapshot) = (2 ^ bits ≡ length w.cache) × IsIn snapshot a.participant.registered × (p ≤ snapshot.number → has_versions_at w.writes.history p ≡ true)
@@ -36,8 +36,8 @@ Needs w by a end_reading = Unit {0}
 -- the bound rises, up to the published number; where numbers move, the delayed flag is up before
 Needs w by a (store_published entry others) = MayPublish w by a entry others
 Needs w by a (store_max_evicted m) = Holds w.holders write_turn by × Holds w.holders prepared_turn by × (w.max_evicted ≤ m) × (m ≤ published w) × ((w.delayed_flag ≢ 0) ⊎ ((p : ℕ) → set.contains w.prepared.heap p ≡ true → m < p))
--- the pending entry's pair comes into its word, where it fits and the pair that is there may be evicted; a flag is 0 only where its
--- tables are empty
+-- the pending entry's pair comes into its word, where it fits and the pair that is there may be evicted; a flag is 0 only where what
+-- it tells of is empty
 Needs w by a (store_word pair) = Holds w.holders write_turn by × (pending_pair w.writes.history w.writes.pending ≡ Some pair) × (fits (length w.cache) pair ≡ true) × ((gone : CommitPair) → pair_at w.cache (cache_place (length w.cache) pair.number) ≡ Some gone → MayBeEvicted w gone)
 Needs w by a (store_delayed_flag value) = Holds w.holders prepared_turn by × (value ≡ 0 → NoneDelayed w.prepared)
 Needs w by a (store_old_flag value) = Holds w.holders snapshots_turn by × (value ≡ 0 → NoOldCommits w.snapshots)
@@ -50,11 +50,12 @@ Needs w by a (make_pending entries) = Holds w.holders write_turn by × (w.writes
 Needs w by a log_pending = MayLog w by
 Needs w by a close_log = MayClose w by
 Needs w by a find_log_closed = Holds w.holders write_turn by × (w.writes.closed ≡ true)
+Needs w by a find_base = Holds w.holders write_turn by × NoneNext w.writes
 Needs w by a drop_pending = MayDrop w by
 Needs w by a (write_segment place) = MayWriteSegment w by place
 Needs w by a use_segment = MayUseSegment w by
 Needs w by a stop_log = MayStop w by
--- a delayed commit comes with the flag up, of a decided number or of the pending entry; only what is decided leaves, all three tables at
+-- a delayed commit comes with the flag up, of a decided number or of the pending entry; only what is decided leaves, all three sets at
 -- once, where its word or the old commit map answers for it
 Needs w by a add_prepared = IsPreparePending w by
 Needs w by a take_pending_prepared = IsPreparePending w by
@@ -78,13 +79,13 @@ Needs w by a (install edit compacts) = Holds w.holders tables_turn by × (w.inst
 Needs w by a (renew edit) = Holds w.holders tables_turn by × (w.installed.halted ≡ false) × KeepsStore w w.store (record w.installed { last = edit }) × NamesNext w by edit × (w.installed.last.tables ≤ edit.tables)
 Needs w by a (halt edit) = Holds w.holders tables_turn by × (w.installed.halted ≡ false) × KeepsStore w w.store (with_failed w.installed edit) × ((failed : InstalledEdit) → edit ≡ Some failed → NamesSegment w failed ⊎ NamesNext w by failed)
 Needs w by a find_edit = Holds w.holders tables_turn by
--- a name is claimed where it is not live, and a key locked where it is not held; what is undecided is left, where it has
--- locked no key but its batch's, and what is decided or was never prepared is freed
+-- a name is claimed where it is not live, and a key locked where it is not held, for a transaction that is not prepared; what is
+-- undecided is left, where it has locked no key but its batch's, and what is decided or was never prepared is freed
 Needs w by a (claim_name name) = Holds w.holders locks_turn by × (finite.get w.locks.names name ≡ None) × (a.live ≡ true)
 Needs w by a (take_name name p) = Holds w.holders locks_turn by × (finite.get w.locks.names name ≡ Some None) × (named w.writes.history name ≡ Some p)
 Needs w by a (leave_name name) = Holds w.holders locks_turn by × ((t : Transaction) × HasTransaction a name t × ((key : List ℕ) → set.contains t.locked key ≡ true → is_changed (batch_of_name w.writes.history name) key ≡ true)) × (is_some (named w.writes.history name) ≡ true)
 Needs w by a (free_transaction name) = Holds w.holders locks_turn by × ((t : Transaction) × HasTransaction a name t) × (named w.writes.history name ≡ None)
-Needs w by a (lock_key name t key) = Holds w.holders locks_turn by × HasTransaction a name t × (finite.get w.locks.keys key ≡ None)
+Needs w by a (lock_key name t key) = Holds w.holders locks_turn by × HasTransaction a name t × (finite.get w.locks.keys key ≡ None) × (named w.writes.history name ≡ None)
 Needs w by a (free_key name t key) = Holds w.holders locks_turn by × HasTransaction a name t × (set.contains t.locked key ≡ true) × (named w.writes.history name ≡ None)
 Needs w by a (lock_direct key) = Holds w.holders locks_turn by × (a.participant.direct ≡ None) × (finite.get w.locks.keys key ≡ None)
 Needs w by a (free_direct key) = Holds w.holders locks_turn by × (a.participant.direct ≡ Some key)

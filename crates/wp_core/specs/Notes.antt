@@ -1,12 +1,13 @@
 -- When a step of the actor itself ends what it noted.
 use Rattle.std.specs.Prelude.{ℕ, Bool, true, false, ◌||◌, ◌==◌, not, List, filter, Option, Some, None, bytes_eq}
 use Rattle.wp_model.specs.declared.entry.Entry.{Entry}
+use Rattle.wp_model.specs.History.{changes_of, is_changed}
 use Rattle.wp_core.specs.Turns.{Turn}
 use Rattle.wp_core.specs.Cache.{cache_place}
-use Rattle.wp_core.specs.Views.{Fact, passed, in_old_commits, apart, words_stay, has_left, versions_in_memory, versions_nowhere, number_in_heap, number_not_in_heap, pair_delayed, pair_not_delayed, none_waits, undecided_at, prior_values, unprepared, direct_free, tables_stay, live_listed, nothing_flushed, frozen_stay, delayed_flag_stays, old_flag_stays}
+use Rattle.wp_core.specs.Views.{Fact, passed, in_old_commits, apart, words_stay, has_left, versions_in_memory, versions_nowhere, number_in_heap, number_not_in_heap, pair_delayed, pair_not_delayed, none_waits, undecided_at, prior_values, unprepared, direct_free, unchanged, locks_stay, tables_stay, live_listed, nothing_flushed, frozen_stay, delayed_flag_stays, old_flag_stays}
 use Rattle.wp_core.specs.Entries.{transaction_of}
 use Rattle.wp_core.specs.World.{Actor}
-use Rattle.wp_core.specs.Steps.{Step, store_published, store_max_evicted, store_word, store_delayed_flag, store_old_flag, give_turn, make_pending, drop_pending, add_prepared, take_pending_prepared, delay_pending, add_versions, take_versions, move_versions, replace_versions, install, renew, free_transaction, leave_name, free_direct}
+use Rattle.wp_core.specs.Steps.{Step, store_published, store_max_evicted, store_word, store_delayed_flag, store_old_flag, give_turn, make_pending, drop_pending, add_prepared, take_pending_prepared, delay_pending, add_versions, take_versions, move_versions, replace_versions, install, renew, free_transaction, leave_name, free_key, free_direct}
 use Rattle.wp_core.specs.Changes.{turn_index}
 use Rattle.wp_core.specs.Sound.Views.{guarded_by}
 
@@ -70,6 +71,12 @@ ends_transaction history name (free_transaction other) = bytes_eq other name
 ends_transaction history name (leave_name other) = bytes_eq other name
 ends_transaction history name other = false
 
+-- the key is freed, or changed by what is published
+abbrev pub ends_unchanged : List Entry → List ℕ → Step → Bool
+ends_unchanged history key (store_published entry others) = is_changed (changes_of history entry) key
+ends_unchanged history key (free_key name t freed) = bytes_eq freed key
+ends_unchanged history key other = false
+
 abbrev pub frees_direct : Step → Bool
 frees_direct (free_direct key) = true
 frees_direct other = false
@@ -104,6 +111,8 @@ ends_itself history words step (undecided_at name p) = ends_transaction history 
 ends_itself history words step (prior_values name p batch) = ends_transaction history name step
 ends_itself history words step (unprepared name) = ends_transaction history name step
 ends_itself history words step (direct_free key) = frees_direct step
+ends_itself history words step (unchanged name key n) = ends_transaction history name step || ends_unchanged history key step
+ends_itself history words step (locks_stay name p keys) = false
 ends_itself history words step (tables_stay versions floor) = moves_versions step || replaces_versions step
 ends_itself history words step (live_listed floor listed) = false
 ends_itself history words step nothing_flushed = moves_versions step || installs step

@@ -1,5 +1,5 @@
--- The tables that the turns guard. Those of prepared transactions, of snapshots, and of names and keys are the same that
--- the crates of these tables show; here are the others, and what the machine asks of all.
+-- The states that the turns guard. Those of prepared transactions, of snapshots, and of names and keys are the same that
+-- the crates of these show; here are the others, and what the machine asks of all.
 use Rattle.std.specs.Prelude.{ℕ, nat_le, not, Bool, List, ◌++◌, filter, Option}
 use Rattle.std.specs.FinSet as set
 use Rattle.std.specs.FinMap as map
@@ -17,7 +17,8 @@ use Rattle.wp_core.specs.Turns.{Turn, write_turn, prepared_turn, snapshots_turn,
 -- The history and its log. What is pending is what is left of one record, the entry that comes next first: a record is one
 -- entry, or an Undo with its Close. It is logged as a whole before its first entry joins the history. Where nothing is
 -- pending, logged says nothing. Once an append failed the log is closed, and its bytes may have that record or not. It is
--- stopped where it was closed for the devices of the tables alone. The log is in a segment of its device; another one that was written beside it is the next one.
+-- stopped where it was closed for the devices of the tables alone. The log is in a segment of its device; another one that was
+-- written beside it is the next one.
 pub record WriteState : Type 0 where
   pub history : List Entry
   pub pending : List Entry

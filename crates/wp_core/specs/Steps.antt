@@ -1,4 +1,4 @@
--- The steps of an actor: the loads and stores of words, the turns, and the changes of tables that it holds.
+-- The steps of an actor: the loads and stores of words, the turns, and the changes of states that it holds.
 use Rattle.std.specs.Prelude.{ℕ, Bool, List, Option}
 use Rattle.wp_model.specs.declared.change.Change.{Change}
 use Rattle.wp_model.specs.declared.entry.Entry.{Entry}
@@ -12,7 +12,7 @@ use Rattle.wp_core.specs.Views.{Account, Fact}
 use Rattle.wp_core.specs.World.{Transaction, Actor}
 use Rattle.wp_judge.specs.declared.observed.Load.{Load}
 
--- One step is one load or store of one word, one turn taken or given, or one change of a table whose turn the actor holds.
+-- One step is one load or store of one word, one turn taken or given, or one change of a state whose turn the actor holds.
 pub data Step : Type 0 where
   -- ---- loads
   -- the published number: the actor sees the history
@@ -21,7 +21,7 @@ pub data Step : Type 0 where
   register : ℕ → Step
   -- from now on the actor reads words of so many bits, this version at this snapshot of its own
   begin_reading : ℕ → ℕ → Registration → Step
-  -- the bound, a word, a flag, or a look into a table that is held; the reader's order says which
+  -- the bound, a word, a flag, or a look into a state that is held; the reader's order says which
   load : Load → Step
   end_reading : Step
   -- ---- stores
@@ -43,6 +43,8 @@ pub data Step : Type 0 where
   -- the append failed, or the write of a segment
   close_log : Step
   find_log_closed : Step
+  -- the published number and the log's base, while no segment waits
+  find_base : Step
   drop_pending : Step
   -- a segment is written at this place, of the history up to the published number
   write_segment : ℕ → Step

@@ -1,9 +1,9 @@
--- The six turns, and who holds them. A turn guards a table: who holds it reads and changes the table, and nobody else.
+-- The six turns, and who holds them. A turn guards a state: who holds it reads and changes the state, and nobody else.
 use Rattle.std.specs.Prelude.{◌≡◌, ℕ, Option, Some, None}
 use Rattle.wp_core.specs.declared.turn.Turn as code
 use Rattle.wp_core.specs.declared.turn.Turn.TheVariants as turn
 
--- The write turn guards the history and its log, the prepared turn the tables of prepared transactions, the snapshots turn
+-- The write turn guards the history and its log, the prepared turn the sets of prepared transactions, the snapshots turn
 -- the live snapshots with the old commit map, the store turn the versions, the locks turn names and keys and labels, the
 -- tables turn the manifest and the table files.
 pub data Turn : Type 0 where

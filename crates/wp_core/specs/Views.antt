@@ -1,4 +1,4 @@
--- What an actor did and found, and what it knows of tables that others may hold.
+-- What an actor did and found, and what it knows of states that others may hold.
 use Rattle.std.specs.Prelude.{ℕ, Bool, List, Option}
 use Rattle.wp_model.specs.declared.change.Change.{Change}
 use Rattle.wp_model.specs.declared.entry.Entry.{Entry}
@@ -32,6 +32,8 @@ pub data Event : Type 0 where
   tables_failed : InstalledEdit → Option InstalledEdit → Event
   -- the log was found closed at this published number
   stopped : ℕ → Event
+  -- at this published number the log was found with this base
+  based_at : ℕ → ℕ → Event
   -- the last edit was found, with this flushed number, this base of the log and so many tables, by one who knew of so many; true where
   -- the devices had failed
   found_edit : ℕ → ℕ → ℕ → ℕ → Bool → Event
@@ -65,6 +67,10 @@ pub data Fact : Type 0 where
   unprepared : List ℕ → Fact
   -- the key of a direct write is in no undecided batch
   direct_free : List ℕ → Fact
+  -- of a transaction and a key that it locked: no entry above this number changes the key
+  unchanged : List ℕ → List ℕ → ℕ → Fact
+  -- while the prepare with this number is undecided under the name, just these keys are held for it
+  locks_stay : List ℕ → ℕ → List (List ℕ) → Fact
   -- for maintenance: the versions in tables and the floor; each live number is listed or from the floor on; no flushed version
   -- in memory; the versions in memory up to a number
   tables_stay : List Version → ℕ → Fact

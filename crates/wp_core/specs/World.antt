@@ -1,4 +1,4 @@
--- The world: the words, the turns, the tables that they guard, and the actors.
+-- The world: the words, the turns, the states that they guard, and the actors.
 use Rattle.std.specs.Prelude.{ℕ, Bool, List, [], Option, None, length}
 use Rattle.std.specs.FinSet as set
 use Rattle.std.specs.FinMap as map
@@ -35,8 +35,8 @@ pub record Participant : Type 0 where
   pub direct : Option (List ℕ)
 
 -- An actor: a client's seat, or a note. What it learned from a note is what the note saw, until the actor loads the
--- published number. It has each table whose turn it holds, as it left it at its last step; a version that it reads; and
--- what it noted of tables that others may hold now. A note, and an actor that was joined, is not live. The first actor
+-- published number. It has each state whose turn it holds, as it left it at its last step; a version that it reads; and
+-- what it noted of states that others may hold now. A note, and an actor that was joined, is not live. The first actor
 -- counts those that it made, and has the participants of those that it joined.
 pub record Actor : Type 0 where
   pub participant : Participant
@@ -78,7 +78,7 @@ history w = w.writes.history
 abbrev pub published : World → ℕ
 published w = length w.writes.history
 
--- the table that a turn guards
+-- the state that a turn guards
 abbrev pub content_of : World → Turn → Content
 content_of w write_turn = writes w.writes
 content_of w prepared_turn = prepared w.prepared

@@ -1,8 +1,8 @@
-//! The core machine: what threads do to the shared words and tables, one step at a time, and what stays true of them.
+//! The core machine: what threads do to the shared words and states, one step at a time, and what stays true of them.
 //!
 //! A world has the words that all actors load and store, the published number, the evicted bound, two flags and the commit
-//! cache; the tables that six turns guard; and the actors. A step is one load or one store of one word, one turn taken or
-//! given, or one change of a table whose turn the actor holds. A run is a list of such steps of any actors, in any order,
+//! cache; the states that six turns guard; and the actors. A step is one load or one store of one word, one turn taken or
+//! given, or one change of a state whose turn the actor holds. A run is a list of such steps of any actors, in any order,
 //! from an opening world.
 //!
 //! A writer takes the write turn, makes an entry pending, puts its versions in memory, logs it, puts its pair into a

@@ -2,12 +2,12 @@ ghost use Rattle.std.specs.Prelude.{◌≡◌};
 ghost use Rattle.wp_core.specs.Changes.{turn_index};
 ghost use Rattle.wp_core.specs.Turns.{turn_of};
 
-/// One of the six turns. Who holds it reads and changes the table that it guards, and nobody else does.
+/// One of the six turns. Who holds it reads and changes the state that it guards, and nobody else does.
 #[derive(Clone, Copy)]
 pub enum Turn {
     /// The history and its log.
     Write,
-    /// The tables of prepared transactions.
+    /// The sets of prepared transactions.
     Prepared,
     /// The live snapshots with the old commit map.
     Snapshots,

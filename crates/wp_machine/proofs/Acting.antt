@@ -120,16 +120,16 @@ no_guard s given None = refl
 no_guard s given (Some turn) = given turn
 
 note_ends_nothing : (h : List Entry) (n : ℕ) → EndsNothing h n step.make_note
-note_ends_nothing h n = record { guard = no_guard step.make_note (λ turn. refl); place = λ at. refl; words = refl; pending = refl; transaction = λ name. refl; delayed_flag = refl; old_flag = refl; add_prepared = refl; take_prepared = refl; delays = refl; add_versions = refl; take_versions = refl; moves = refl; replaces = refl; installs = refl; direct = refl }
+note_ends_nothing h n = record { guard = no_guard step.make_note (λ turn. refl); place = λ at. refl; words = refl; pending = refl; transaction = λ name. refl; delayed_flag = refl; old_flag = refl; add_prepared = refl; take_prepared = refl; delays = refl; add_versions = refl; take_versions = refl; moves = refl; replaces = refl; installs = refl; direct = refl; changes = λ key. refl }
 
 seat_ends_nothing : (h : List Entry) (n : ℕ) → EndsNothing h n step.make_seat
-seat_ends_nothing h n = record { guard = no_guard step.make_seat (λ turn. refl); place = λ at. refl; words = refl; pending = refl; transaction = λ name. refl; delayed_flag = refl; old_flag = refl; add_prepared = refl; take_prepared = refl; delays = refl; add_versions = refl; take_versions = refl; moves = refl; replaces = refl; installs = refl; direct = refl }
+seat_ends_nothing h n = record { guard = no_guard step.make_seat (λ turn. refl); place = λ at. refl; words = refl; pending = refl; transaction = λ name. refl; delayed_flag = refl; old_flag = refl; add_prepared = refl; take_prepared = refl; delays = refl; add_versions = refl; take_versions = refl; moves = refl; replaces = refl; installs = refl; direct = refl; changes = λ key. refl }
 
 learning_ends_nothing : (h : List Entry) (n place : ℕ) (note : Actor) → EndsNothing h n (step.learn place note)
-learning_ends_nothing h n place note = record { guard = no_guard (step.learn place note) (λ turn. refl); place = λ at. refl; words = refl; pending = refl; transaction = λ name. refl; delayed_flag = refl; old_flag = refl; add_prepared = refl; take_prepared = refl; delays = refl; add_versions = refl; take_versions = refl; moves = refl; replaces = refl; installs = refl; direct = refl }
+learning_ends_nothing h n place note = record { guard = no_guard (step.learn place note) (λ turn. refl); place = λ at. refl; words = refl; pending = refl; transaction = λ name. refl; delayed_flag = refl; old_flag = refl; add_prepared = refl; take_prepared = refl; delays = refl; add_versions = refl; take_versions = refl; moves = refl; replaces = refl; installs = refl; direct = refl; changes = λ key. refl }
 
 joining_ends_nothing : (h : List Entry) (n place : ℕ) (seat : Actor) → EndsNothing h n (step.join_seat place seat)
-joining_ends_nothing h n place seat = record { guard = no_guard (step.join_seat place seat) (λ turn. refl); place = λ at. refl; words = refl; pending = refl; transaction = λ name. refl; delayed_flag = refl; old_flag = refl; add_prepared = refl; take_prepared = refl; delays = refl; add_versions = refl; take_versions = refl; moves = refl; replaces = refl; installs = refl; direct = refl }
+joining_ends_nothing h n place seat = record { guard = no_guard (step.join_seat place seat) (λ turn. refl); place = λ at. refl; words = refl; pending = refl; transaction = λ name. refl; delayed_flag = refl; old_flag = refl; add_prepared = refl; take_prepared = refl; delays = refl; add_versions = refl; take_versions = refl; moves = refl; replaces = refl; installs = refl; direct = refl; changes = λ key. refl }
 
 ends_nothing : (w : World) (k : ActorsStep) (s : Step) → actors_step w k ≡ Some s → EndsNothing w.writes.history (length w.cache) s
 ends_nothing w actors.MakeNote s e = subst (EndsNothing w.writes.history (length w.cache)) (only step.make_note s e) (note_ends_nothing _ _)

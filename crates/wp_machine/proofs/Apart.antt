@@ -88,6 +88,7 @@ of_writes (write.MakePending entries) s e = subst Acts (only (step.make_pending 
 of_writes write.LogPending s e = subst Acts (only (step.log_pending) _ e) tt
 of_writes write.CloseLog s e = subst Acts (only (step.close_log) _ e) tt
 of_writes write.FindLogClosed s e = subst Acts (only (step.find_log_closed) _ e) tt
+of_writes write.FindBase s e = subst Acts (only (step.find_base) _ e) tt
 of_writes write.DropPending s e = subst Acts (only (step.drop_pending) _ e) tt
 of_writes (write.WriteSegment place) s e = subst Acts (only (step.write_segment place) _ e) tt
 of_writes write.UseSegment s e = subst Acts (only (step.use_segment) _ e) tt
@@ -152,7 +153,7 @@ acts w p (kind.Locks k) s i e = of_lockss w.locks p k s e
 acts w p (kind.Own k) s i e = of_own p k s e
 acts w p (kind.Actors k) s i e = absurd i
 
--- it is told by the tables alone
+-- it is told by the states alone
 pub apart_same : (w : World) (p : Participant) (k : Kind) → IsApart k → apart_step w.writes w.store w.locks p k ≡ step_of w p k
 apart_same w p (kind.Reader k) i = refl
 apart_same w p (kind.Word k) i = refl
@@ -187,6 +188,7 @@ again w by x a (step.make_pending x0) i = ap (λ (zs : List Actor). record (done
 again w by x a step.log_pending i = ap (λ (zs : List Actor). record (done w by a step.log_pending) { actors = zs }) (set-set w.actors by x _)
 again w by x a step.close_log i = ap (λ (zs : List Actor). record (done w by a step.close_log) { actors = zs }) (set-set w.actors by x _)
 again w by x a step.find_log_closed i = ap (λ (zs : List Actor). record (done w by a step.find_log_closed) { actors = zs }) (set-set w.actors by x _)
+again w by x a step.find_base i = ap (λ (zs : List Actor). record (done w by a step.find_base) { actors = zs }) (set-set w.actors by x _)
 again w by x a step.drop_pending i = ap (λ (zs : List Actor). record (done w by a step.drop_pending) { actors = zs }) (set-set w.actors by x _)
 again w by x a (step.write_segment x0) i = ap (λ (zs : List Actor). record (done w by a (step.write_segment x0)) { actors = zs }) (set-set w.actors by x _)
 again w by x a step.use_segment i = ap (λ (zs : List Actor). record (done w by a step.use_segment) { actors = zs }) (set-set w.actors by x _)

@@ -1,4 +1,4 @@
--- What an actor holds, where the table of a turn changes.
+-- What an actor holds, where the state of a turn changes.
 use Rattle.std.proofs.Common.{◌≡◌, ℕ, suc, ◌+◌, ◌<◌, ◌≤◌, ◌-◌, Bool, true, false, nat_eq, cond, List, [], ◌∷◌, length, set, Option, Some, None, refl, ap, arith}
 use Rattle.wp_core.specs.States.{Content, turn_of}
 use Rattle.wp_core.specs.Changes.{turn_index, held_with}

@@ -3,7 +3,7 @@ use Rattle.std.proofs.Common.{◌≡◌, ℕ, Bool, false, not, filter, ◌||◌
 use Rattle.wp_model.specs.declared.entry.Entry.{Entry}
 use Rattle.wp_core.specs.Turns.{Turn}
 use Rattle.wp_core.specs.Steps.{Step}
-use Rattle.wp_core.specs.Notes.{gives_guard, stores_at, stores_words, stores_delayed_flag, stores_old_flag, ends_pending, adds_versions, takes_versions, adds_prepared, takes_prepared, delays_pending, ends_transaction, frees_direct, moves_versions, replaces_versions, installs, ends_itself, ends}
+use Rattle.wp_core.specs.Notes.{gives_guard, stores_at, stores_words, stores_delayed_flag, stores_old_flag, ends_pending, adds_versions, takes_versions, adds_prepared, takes_prepared, delays_pending, ends_transaction, ends_unchanged, frees_direct, moves_versions, replaces_versions, installs, ends_itself, ends}
 use Rattle.wp_core.specs.Views as view
 use Rattle.wp_core.specs.Views.{Fact}
 use Rattle.wp_core.specs.Sound.Views.{guarded_by}
@@ -25,6 +25,7 @@ pub record EndsNothing (h : List Entry) (n : ℕ) (s : Step) : Type 0 where
   pub replaces : replaces_versions s ≡ false
   pub installs : installs s ≡ false
   pub direct : frees_direct s ≡ false
+  pub changes : (key : List ℕ) → ends_unchanged h key s ≡ false
 
 neither : (a b : Bool) → a ≡ false → b ≡ false → (a || b) ≡ false
 neither a b p q = rw (p, q) refl
@@ -46,6 +47,8 @@ none_ends h n s is (view.undecided_at name p) = is.transaction name
 none_ends h n s is (view.prior_values name p batch) = is.transaction name
 none_ends h n s is (view.unprepared name) = is.transaction name
 none_ends h n s is (view.direct_free key) = is.direct
+none_ends h n s is (view.unchanged name key m) = neither _ _ (is.transaction name) (is.changes key)
+none_ends h n s is (view.locks_stay name p keys) = refl
 none_ends h n s is (view.tables_stay versions floor) = neither _ _ is.moves is.replaces
 none_ends h n s is (view.live_listed floor listed) = refl
 none_ends h n s is view.nothing_flushed = neither _ _ is.moves is.installs

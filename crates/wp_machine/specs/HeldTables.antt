@@ -1,4 +1,4 @@
--- Where the table of a turn is among those that an actor holds.
+-- Where the state of a turn is among those that an actor holds.
 use Rattle.std.specs.Prelude.{ℕ, ◌+◌, ◌==◌, List, [], ◌∷◌, Option, Some, None, if◌then◌else◌}
 use Rattle.wp_core.specs.Turns.{Turn}
 use Rattle.wp_core.specs.States.{Content, turn_of}

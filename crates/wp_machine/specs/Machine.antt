@@ -78,6 +78,7 @@ write_step (write.MakePending entries) = Some (step.make_pending entries.items)
 write_step write.LogPending = Some step.log_pending
 write_step write.CloseLog = Some step.close_log
 write_step write.FindLogClosed = Some step.find_log_closed
+write_step write.FindBase = Some step.find_base
 write_step write.DropPending = Some step.drop_pending
 write_step (write.WriteSegment place) = Some (step.write_segment place)
 write_step write.UseSegment = Some step.use_segment

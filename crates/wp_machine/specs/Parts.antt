@@ -40,6 +40,7 @@ event_of (found.LogFailed entries) = view.log_failed entries.value.items
 event_of found.LogStopped = view.log_stopped
 event_of (found.TablesFailed last edit) = view.tables_failed last.value edit.value
 event_of (found.Stopped n) = view.stopped n
+event_of (found.Base n base) = view.based_at n base
 event_of (found.Edit flushed base tables due halted) = view.found_edit flushed base tables due halted
 event_of (found.Holder key holder seen account) = view.found key.value holder.value seen (account_of account)
 
@@ -60,6 +61,8 @@ fact_of (noted.UndecidedAt name p) = view.undecided_at name p
 fact_of (noted.PriorValues name p batch) = view.prior_values name p batch
 fact_of (noted.Unprepared name) = view.unprepared name
 fact_of (noted.DirectFree key) = view.direct_free key
+fact_of (noted.Unchanged name key n) = view.unchanged name key n
+fact_of (noted.LocksStay name p keys) = view.locks_stay name p keys.items
 fact_of (noted.TablesStay versions floor) = view.tables_stay versions.items floor
 fact_of (noted.LiveListed floor listed) = view.live_listed floor listed.items
 fact_of noted.NothingFlushed = view.nothing_flushed

@@ -1,4 +1,4 @@
-//! What tables show to those who test a step.
+//! What states show to those who test a step.
 ghost use Rattle.std.specs.Prelude.{◌≡◌};
 ghost use Rattle.std.specs.Option.{option_copied};
 

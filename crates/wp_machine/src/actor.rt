@@ -240,7 +240,7 @@ fn has_snapshot(seen: &Observed, registered: &[Registration]) -> bool
     registered.iter().any(|r| seen.snapshot == r.number && seen.smallest == r.smallest)
 }
 
-/// Whether it is the table of that turn.
+/// Whether it is the state of that turn.
 fn is_of(content: &Content, turn: Turn) -> bool
     ensures { result ≡ (turn_index (tables.turn_of content.now) == turn_index (turn_of turn)) }
 {
@@ -306,7 +306,7 @@ impl Actor {
         Ok(())
     }
 
-    /// The table of a turn that it holds, as it leaves it.
+    /// The state of a turn that it holds, as it leaves it.
     pub fn hold(&mut self, content: Content)
         ensures { self.new ≡ record self.old { held = held_with self.old.held content } }
     {

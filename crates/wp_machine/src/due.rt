@@ -22,6 +22,7 @@ fn due_after(due: u64, event: &Event) -> Result<u64, AllocError>
         | Found::LogStopped
         | Found::TablesFailed(_, _)
         | Found::Stopped(_)
+        | Found::Base(_, _)
         | Found::Edit(_, _, _, _, _)
         | Found::Holder(_, _, _, _) => Ok(due),
     }

@@ -11,7 +11,7 @@
 //! prepares are delayed, their names had by nobody and their keys held.
 //!
 //! Sets and maps are lists whose newest item comes first. What no step reads is there for clauses alone, has no bytes and takes no
-//! memory (`Snapshot`): a table as its holder left it, what an actor did or found, the history that the world was opened on.
+//! memory (`Snapshot`): a state as its holder left it, what an actor did or found, the history that the world was opened on.
 //!
 //! Whether a step may be made is tested by `wp_machine_permits`.
 #![tactic(auto)]

@@ -49,7 +49,7 @@ fn take_key(keys: &mut Vec<(Key, Holder)>, key: &Key)
     keys.retain(|pair| &pair.0 != key);
 }
 
-/// The keys among these that the holder holds by the table.
+/// The keys among these that the holder holds by the state.
 fn held_keys(
     pairs: &[(Key, Holder)],
     table: &LockState,
@@ -67,7 +67,7 @@ fn held_keys(
     Ok(keys)
 }
 
-/// Those of these whose keys the holder does not hold by the table.
+/// Those of these whose keys the holder does not hold by the state.
 fn other_keys(
     pairs: &[(Key, Holder)],
     table: &LockState,

@@ -15,7 +15,7 @@ use std::snapshot::Snapshot;
 #[derive(Drop)]
 pub enum Mark {
     Noted(Snapshot<Fact>),
-    /// A step of this kind by this participant, in a world with these tables and words.
+    /// A step of this kind by this participant, in a world with these states and words.
     Made(
         Snapshot<WriteState>,
         Snapshot<StoreState>,

@@ -83,6 +83,8 @@ pub enum WriteStep {
     /// The append failed, or the write of a segment.
     CloseLog,
     FindLogClosed,
+    /// The published number and the log's base, while no segment waits.
+    FindBase,
     DropPending,
     /// A segment of the log, at this place of its device, of the history up to the published number.
     WriteSegment(u64),

@@ -37,6 +37,8 @@ pub enum Found {
     TablesFailed(Snapshot<InstalledEdit>, Snapshot<Option<InstalledEdit>>),
     /// The log was found closed at this published number.
     Stopped(Seq),
+    /// At this published number the log was found with this base.
+    Base(Seq, Seq),
     /// The last edit, with this flushed number, this base of the log and so many tables, by one who knew of so many; true
     /// where the devices had failed.
     Edit(Seq, Seq, u64, u64, bool),
@@ -96,6 +98,8 @@ pub enum Noted {
     PriorValues(Name, Seq, Batch),
     Unprepared(Name),
     DirectFree(Key),
+    Unchanged(Name, Key, Seq),
+    LocksStay(Name, Seq, Vec<Key>),
     TablesStay(Vec<Version>, Seq),
     LiveListed(Seq, Vec<Seq>),
     NothingFlushed,
@@ -141,6 +145,8 @@ impl Fact {
             | Noted::PriorValues(_, _, _)
             | Noted::Unprepared(_)
             | Noted::DirectFree(_)
+            | Noted::Unchanged(_, _, _)
+            | Noted::LocksStay(_, _, _)
             | Noted::LiveListed(_, _) => None,
             Noted::TablesStay(_, _) | Noted::NothingFlushed | Noted::FrozenStay(_, _) => {
                 Some(Turn::Tables)

@@ -24,7 +24,7 @@ use std::snapshot::Snapshot;
 use wp_history::History;
 use wp_model::{Entry, Name, Seq};
 
-/// The words, the turns, the tables that they guard, and the actors.
+/// The words, the turns, the states that they guard, and the actors.
 pub struct World {
     pub alloc: Global,
     /// The history that the world was opened on. No step reads it.

@@ -1,5 +1,5 @@
 -- What an actor has.
-use Rattle.std.proofs.Common.{◌≡◌, true, List, [], ◌∷◌, ap, sym, ◌∙◌, ℕ, Option, Some, None, option_map, unwrap_or, length, refl, zero, suc, take, drop, ◌++◌, ◌≤◌, ◌<◌, ◌^◌, arith}
+use Rattle.std.proofs.Common.{◌≡◌, true, List, [], ◌∷◌, ap, subst, sym, ◌∙◌, ℕ, Option, Some, None, option_map, unwrap_or, length, refl, zero, suc, take, drop, ◌++◌, ◌≤◌, ◌<◌, ◌^◌, arith}
 use Rattle.std.specs.Option.{is_some}
 use Rattle.std.proofs.Common.{inl, inr}
 use Rattle.std.specs.FinSet as set
@@ -15,8 +15,8 @@ use Rattle.wp_model.specs.declared.change.Change.{Change}
 use Rattle.wp_model.specs.History.{batch_at, named, holder_of, is_changed}
 use Rattle.wp_model.proofs.Found.{found_holder}
 use Rattle.wp_core.specs.Cache.{pair_at, cache_place}
-use Rattle.wp_core.specs.Conditions.{IsHeldFor, MayBeEvicted}
-use Rattle.wp_core.specs.Entries.{changes_under, transaction_of, pending_pair}
+use Rattle.wp_core.specs.Conditions.{MayBeEvicted}
+use Rattle.wp_core.specs.Entries.{changes_under, written, transaction_of, pending_pair}
 use Rattle.wp_core.specs.Reading.{Registration}
 use Rattle.wp_core.specs.Lists.{IsIn}
 use Rattle.wp_core.specs.Sound.Snapshots.{has_versions_at}
@@ -24,7 +24,7 @@ use Rattle.wp_machine_permits.specs.Each.{Each}
 use Rattle.wp_machine_permits.specs.Offered.{IsOffered}
 use Rattle.wp_machine.proofs.NameMaps.{set_of}
 use Rattle.wp_machine_permits.proofs.LiveNumbers.{each_locked}
-use Rattle.wp_machine_permits.specs.Permits.{MayFollow, IsOwner, IsOwned, IsEntitled, IsMade, MayBeLeft}
+use Rattle.wp_machine_permits.specs.Permits.{MayFollow, IsHeldKey, IsOwner, IsOwned, IsEntitled, IsMade, MayBeLeft}
 
 pub owned : (a : Actor) (name : List ℕ) → is_some (finite.get a.participant.transactions name) ≡ true → IsOwned a name
 owned a name there = by (finite.get a.participant.transactions name) refl there
@@ -67,13 +67,13 @@ publishes w by a entry first turn logged entitled made = cases w.writes.pending 
               };
         }
 
-pub entitled : (w : World) (a : Actor) (entry : Entry) (history : List Entry) → history ≡ w.writes.history → MayFollow history entry → (batch : List Change) → batch ≡ changes_under history entry → ((key : List ℕ) → is_changed batch key ≡ true → IsHeldFor w a key)
+pub entitled : (w : World) (a : Actor) (entry : Entry) (history : List Entry) → history ≡ w.writes.history → MayFollow history entry → (batch : List Change) → batch ≡ changes_under history entry → ((key : List ℕ) → is_changed (written entry) key ≡ true → IsHeldKey history w a key)
     → ((name : List ℕ) → transaction_of history entry ≡ Some name → IsOwner w a name batch) → IsEntitled w a entry
 entitled w a entry history whole follows batch under held owns =
     let all : batch ≡ changes_under w.writes.history entry = under ∙ ap (λ h. changes_under h entry) whole in
     record {
       legal = rw whole at follows.legal;
-      keys = λ key changed. held key (rw all changed);
+      keys = λ key changed. (subst (λ (h : List Entry). IsHeldKey h w a key) whole (held key changed)).held;
       transaction = λ name of. let owner = owns name (rw whole of) in (owner.transaction, owner.there, λ key changed. owner.keys key (rw all changed));
     }
 

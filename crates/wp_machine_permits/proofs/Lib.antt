@@ -9,6 +9,7 @@ pub mod Places
 pub mod NoneWaits
 pub mod Stores
 pub mod LiveNumbers
+pub mod KeysOf
 mod Leading
 mod Legal
 mod Tables

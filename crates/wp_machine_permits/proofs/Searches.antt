@@ -1,4 +1,4 @@
--- What a search over the items of a table says of the table.
+-- What a search over the items of a state says of the state.
 use Rattle.std.proofs.Common.{◌≡◌, ◌<◌, ℕ, zero, suc, get_or, drop, Bool, true, false, cond, nat_eq, not, ◌||◌, length, List, [], ◌∷◌, Option, Some, None, IsSome, MatchOption, refl, sym, ap, ◌∙◌, arith}
 use Rattle.std.specs.Ordering.{nat_cmp, eq_by_cmp}
 use Rattle.std.specs.Cmp.{nat_cmp_total, unsigned_tied, eq_by_cmp_equiv}

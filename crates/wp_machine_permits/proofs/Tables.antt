@@ -1,4 +1,4 @@
--- What is in the tables of the runs.
+-- What is in the states of the runs.
 use Rattle.std.proofs.Common.{◌≡◌, ℕ, nat_le, ◌||◌, ◌&&◌, ◌==◌, not, Bool, true, false, true≢false, cond, List, [], ◌∷◌, ◌++◌, Option, Some, None, is_some, refl, sym, subst, ap, ◌∙◌, arith}
 use Rattle.std.proofs.lemmas.Bool.Decides.{nat_tests}
 use Rattle.std.proofs.lemmas.Slice.Eq.{bytes_eq-Decides}
@@ -133,7 +133,7 @@ alike test q x e = ap test (sym (nat_cmp-IsAntisymmetric q x e))
 retained : (s : set.FinSet nat_cmp) (test : ℕ → Bool) (p : ℕ) → set.contains (set.retain s test) p ≡ (set.contains s p && test p)
 retained s test p = set.contains-retain s test p (alike test p)
 
--- a number that is in no table, as the bound rises
+-- a number that is in no set, as the bound rises
 pub still_out : (x : PreparedSets) (m p : ℕ) → set.contains x.heap p ≡ false → set.contains x.delayed p ≡ false → is_prepared (with_moved x m) p ≡ false
 still_out x m p not_heap not_delayed =
     let heap : set.contains (set.retain x.heap (λ q. not (nat_le q m))) p ≡ false = retained x.heap (λ q. not (nat_le q m)) p ∙ ap (λ (b : Bool). b && not (nat_le p m)) not_heap in

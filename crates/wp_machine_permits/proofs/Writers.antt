@@ -28,10 +28,10 @@ use Rattle.wp_core.proofs.Openings.{AreAll, all_versions}
 use Rattle.wp_core.proofs.SnapshotsStep.{among_live}
 use Rattle.wp_model.proofs.Tests.{same_some, some_none}
 use Rattle.wp_model.proofs.Numbers.{in_inserted}
-use Rattle.wp_machine_permits.specs.Runs.{t, k, d, batch, prior, direct, prepared, claimed, locked, whole, freed, memory, edit, prepare, commit, undo, free, delay, write, keep, overwrite, flush}
+use Rattle.wp_machine_permits.specs.Runs.{t, k, d, batch, prior, direct, prepared, claimed, locked, freed, memory, edit, prepare, commit, undo, free, delay, write, keep, overwrite, flush}
 use Rattle.wp_machine_permits.proofs.Leading.{after, AreMet, ◌▹◌, opening, with_snapshots}
 use Rattle.wp_machine_permits.proofs.Legal.{prepared_legal, committed_legal, written_legal, undone_legal, closed_legal}
-use Rattle.wp_machine_permits.proofs.Tables.{no_numbers, no_snapshots, keys_then, transactions_then, has_whole, only_key, k_held, k_locked, d_free, of_t, added, none_at_2, none_at_3, none_in_heap, still_out, gone_1, not_delayed_1, delayed_1, one_live, live_1, kept_1}
+use Rattle.wp_machine_permits.proofs.Tables.{no_numbers, no_snapshots, keys_then, transactions_then, has_whole, only_key, k_locked, d_free, of_t, added, none_at_2, none_at_3, none_in_heap, still_out, gone_1, not_delayed_1, delayed_1, one_live, live_1, kept_1}
 
 abbrev first_pair : CommitPair
 first_pair = commit_pair 1 2
@@ -60,7 +60,7 @@ pub prepare_met : AreMet prepare opening
 prepare_met =
     (refl, (refl, refl))
     ▹ (refl, (refl, finite.get-empty key_cmp t, refl))
-    ▹ (refl, (refl, at_inserted finite.empty t claimed t refl, finite.get-empty key_cmp k))
+    ▹ (refl, (refl, at_inserted finite.empty t claimed t refl, finite.get-empty key_cmp k, refl))
     ▹ (refl, (refl, tt))
     ▹ (refl, (at_inserted (finite.insert finite.empty t claimed) t locked t refl, refl))
     ▹ (refl, (refl, refl))
@@ -80,7 +80,7 @@ prepare_met =
         logged = refl;
         legal = prepared_legal;
         versions = λ key value e. added 1 prepared [] (λ key. refl) key 1 ∙ e;
-        keys = λ key changed. inr (t, whole, has_whole, k_held key (only_key (Put k (codes "v")) key changed));
+        keys = λ key changed. absurd (true≢false (sym changed));
         transaction = of_t [] prepared refl (only_key (Put k (codes "v")));
         number = λ _. in_inserted no_numbers 1;
         pair = λ pair e. absurd (some_none pair (sym e));
@@ -111,7 +111,7 @@ commit_met m registered =
         logged = refl;
         legal = committed_legal;
         versions = λ key value e. absurd (some_none value (sym e));
-        keys = λ key changed. inr (t, whole, has_whole, k_held key (put_k key changed));
+        keys = λ key changed. absurd (true≢false (sym changed));
         transaction = of_t (prepared ∷ []) (Commit 1) refl put_k;
         number = λ e. absurd e;
         pair = λ pair e. inl (subst (λ (x : CommitPair). cached (0 ∷ word_of 2 first_pair ∷ []) x.number ≡ Some x.decision) (same_some first_pair pair e) refl);
@@ -148,7 +148,7 @@ undo_met =
         logged = refl;
         legal = undone_legal;
         versions = λ key value e. added 2 (Undo 1 prior) memory none_at_2 key 2 ∙ e;
-        keys = λ key changed. inr (t, whole, has_whole, k_held key (only_key (Del k) key changed));
+        keys = λ key changed. absurd (true≢false (sym changed));
         transaction = of_t (prepared ∷ []) (Undo 1 prior) refl (only_key (Del k));
         number = λ e. absurd e;
         pair = λ pair e. inl (subst (λ (x : CommitPair). cached (word_of 2 undo_pair ∷ 0 ∷ []) x.number ≡ Some x.decision) (same_some undo_pair pair e) refl);
@@ -163,7 +163,7 @@ undo_met =
         logged = refl;
         legal = closed_legal;
         versions = λ key value e. absurd (some_none value (sym e));
-        keys = λ key changed. inr (t, whole, has_whole, k_held key (put_k key changed));
+        keys = λ key changed. absurd (true≢false (sym changed));
         transaction = of_t (prepared ∷ Undo 1 prior ∷ []) (Close 1) refl put_k;
         number = λ e. absurd e;
         pair = λ pair e. inl (subst (λ (x : CommitPair). cached (word_of 2 undo_pair ∷ word_of 2 close_pair ∷ []) x.number ≡ Some x.decision) (same_some close_pair pair e) refl);

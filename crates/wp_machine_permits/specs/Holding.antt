@@ -1,5 +1,5 @@
 -- What is so of a transaction of a participant, and of its direct write.
-use Rattle.std.specs.Prelude.{◌≡◌, ℕ, true, List, Some, None}
+use Rattle.std.specs.Prelude.{◌≡◌, ℕ, ◌≤◌, true, List, length, Some, None}
 use Rattle.std.specs.FinSet as set
 use Rattle.std.specs.FinMap as finite
 use Rattle.wp_model.specs.declared.change.Change.{Change}
@@ -9,7 +9,8 @@ use Rattle.wp_model.specs.History.{named, batch_at, is_changed, holder_of}
 use Rattle.wp_model.specs.Legal.{prior}
 use Rattle.wp_model.specs.LockState.{LockState}
 use Rattle.wp_core.specs.World.{Transaction, Participant}
-use Rattle.wp_core.specs.Sound.Views.{Owns}
+use Rattle.wp_core.specs.Sound.Views.{Owns, OwnsKey, AreKeysOf}
+use Rattle.wp_model.specs.Changed.{IsUnchanged}
 
 -- the keys of the changes are held for the transaction
 abbrev pub AreHeldFor : LockState → List Change → List ℕ → Type 0
@@ -30,3 +31,9 @@ IsUnprepared history a name = Owns a name × (named history name ≡ None) × No
 
 abbrev pub IsDirectFree : List Entry → LockState → Participant → List ℕ → Type 0
 IsDirectFree history locks a key = (a.direct ≡ Some key) × (finite.get locks.keys key ≡ Some (Client a.client)) × (holder_of history key ≡ None)
+
+abbrev pub HasUnchanged : List Entry → Participant → List ℕ → List ℕ → ℕ → Type 0
+HasUnchanged history a name key n = OwnsKey a name key × (n ≤ length history) × IsUnchanged history key n
+
+abbrev pub HasLocksStay : List Entry → LockState → List ℕ → ℕ → List (List ℕ) → Type 0
+HasLocksStay history locks name p keys = (p ≤ length history) × (named history name ≡ Some p → AreKeysOf locks.keys name keys)

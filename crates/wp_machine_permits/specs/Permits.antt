@@ -1,16 +1,16 @@
 -- When the test of a step may say yes.
-use Rattle.std.specs.Prelude.{◌≡◌, ℕ, suc, true, List, [], ◌∷◌, ◌++◌, Option, Some, is_some}
+use Rattle.std.specs.Prelude.{◌≡◌, ℕ, suc, true, List, [], ◌∷◌, ◌++◌, ◌⊎◌, Option, Some, None, is_some}
 use Rattle.wp_model.specs.declared.entry.Entry.{Entry}
 use Rattle.wp_model.specs.Legal.{IsLegal, IsLegalNext}
 use Rattle.wp_core.specs.World.{World, Actor, Transaction, published}
 use Rattle.wp_core.specs.Conditions.{HasTransaction, IsHeldFor, IsOwn, IsPrepare}
 use Rattle.wp_core.specs.Sound.Prepared.{IsEntered}
-use Rattle.wp_core.specs.Entries.{batch_of_name, changes_under, pair_by}
+use Rattle.wp_core.specs.Entries.{batch_of_name, pair_by, written}
 use Rattle.std.specs.FinSet as set
 use Rattle.std.specs.FinMap as finite
 use Rattle.wp_judge.specs.Words.{CommitPair}
 use Rattle.wp_model.specs.declared.change.Change.{Change}
-use Rattle.wp_model.specs.declared.holder.Holder.TheVariants.{Txn}
+use Rattle.wp_model.specs.declared.holder.Holder.TheVariants.{Txn, Client}
 use Rattle.wp_model.specs.Decision.{version_in}
 use Rattle.wp_model.specs.History.{named, is_changed}
 use Rattle.wp_model.specs.Versions.{version_at}
@@ -20,16 +20,17 @@ pub record MayFollow (history : List Entry) (entry : Entry) : Type 0 where
   pub next : IsLegalNext history entry
   pub legal : IsLegal (history ++ entry ∷ [])
 
--- the key is held for the actor
-pub record IsHeldKey (w : World) (a : Actor) (key : List ℕ) : Type 0 where
-  pub held : IsHeldFor w a key
+-- the key is held for the actor: for its direct write, or for a transaction of it that is not prepared in this history
+pub record IsHeldKey (history : List Entry) (w : World) (a : Actor) (key : List ℕ) : Type 0 where
+  pub held : ((a.participant.direct ≡ Some key) × (finite.get w.locks.keys key ≡ Some (Client a.participant.client)))
+      ⊎ ((name : List ℕ) × (t : Transaction) × HasTransaction a name t × (finite.get w.locks.keys key ≡ Some (Txn name)) × (named history name ≡ None))
 
 -- the transaction is the actor's
 pub record IsOwned (a : Actor) (name : List ℕ) : Type 0 where
   pub transaction : Transaction
   pub there : HasTransaction a name transaction
 
--- the transaction locked the key, and the table has it as the holder
+-- the transaction locked the key, and the state has it as the holder
 abbrev pub IsLocked : World → Transaction → List ℕ → List ℕ → Type 0
 IsLocked w t name key = (set.contains t.locked key ≡ true) × (finite.get w.locks.keys key ≡ Some (Txn name))
 
@@ -44,10 +45,10 @@ pub record MayBeLeft (history : List Entry) (name : List ℕ) (t : Transaction) 
   pub prepared : is_some (named history name) ≡ true
   pub keys : (key : List ℕ) → set.contains t.locked key ≡ true → is_changed (batch_of_name history name) key ≡ true
 
--- the entry may come next, its keys are held for the actor, and the transaction that it is of is the actor's
+-- the entry may come next, the keys of a Write are held for the actor, and the transaction that it is of is the actor's
 pub record IsEntitled (w : World) (a : Actor) (entry : Entry) : Type 0 where
   pub legal : IsLegal (w.writes.history ++ entry ∷ [])
-  pub keys : (key : List ℕ) → is_changed (changes_under w.writes.history entry) key ≡ true → IsHeldFor w a key
+  pub keys : (key : List ℕ) → is_changed (written entry) key ≡ true → IsHeldFor w a key
   pub transaction : IsOwn w a entry
 
 -- its versions are in memory, the number of a Prepare is in the heap, and the pair of any other is in its word, or is a wide one and delayed

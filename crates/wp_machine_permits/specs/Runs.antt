@@ -68,7 +68,7 @@ prepare =
     ∷ take_turn store_turn ∷ add_versions memory ∷ give_turn store_turn
     ∷ log_pending ∷ store_published prepared [] ∷ give_turn write_turn ∷ []
 
--- 1 leaves the prepared tables
+-- 1 leaves the prepared sets
 abbrev pub clean_up : List Step
 clean_up = take_turn prepared_turn ∷ take_out 1 ∷ give_turn prepared_turn ∷ []
 

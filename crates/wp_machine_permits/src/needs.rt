@@ -1,4 +1,4 @@
-//! What steps need that looks at whole tables: at each live snapshot, at each key and number of a history and of its versions.
+//! What steps need that looks at whole states: at each live snapshot, at each key and number of a history and of its versions.
 //!
 //! Each fact that an actor may note has a test of its own. Yes is answered only where the need is met. The searches are plain and
 //! slow; they are for trying the machine out.
@@ -16,6 +16,7 @@ mod pending;
 mod read;
 mod stored;
 mod transactions;
+mod unchanged;
 mod versions;
 mod waiting;
 
@@ -27,5 +28,5 @@ pub(crate) use moves::{may_halt, may_install, may_move_versions, may_renew, may_
 pub(crate) use note::{is_undelayed, may_note};
 pub(crate) use pending::has_versions_of;
 pub(crate) use read::history_of;
-pub(crate) use transactions::{has_direct, is_held_for};
+pub(crate) use transactions::{has_direct, has_locked, is_held_for};
 pub(crate) use versions::none_at;

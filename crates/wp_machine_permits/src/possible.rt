@@ -34,7 +34,7 @@ pub fn memory_can_be_flushed()
 {}
 
 /// A reader of the prepared version can be decided by a word of the cache; by the bound, where that is below the version; by the
-/// prepared tables; by the bound, where that is below the snapshot; and by the old commit map.
+/// prepared sets; by the bound, where that is below the snapshot; and by the old commit map.
 pub fn readers_can_be_decided()
     ensures by_word { CanLead (prepare ++ commit ++ register ++ look 2) (IsDecidedBy FirstWord true) }
     ensures above_bound { CanLead (prepare ++ register ++ look 1 ++ look_at_bound) (IsDecidedBy FirstMax false) }

@@ -7,7 +7,7 @@ use wp_machine::{
     ActorsStep, Fact, InstalledEdit, Kind, LocksStep, Noted, OwnStep, PreparedStep, ReaderStep,
     SnapshotsStep, Step, StoreStep, TablesStep, Turn, TurnStep, WordStep, WriteStep,
 };
-use wp_model::{Name, Segment, Seq};
+use wp_model::{Key, Name, Segment, Seq};
 
 /// The first word of a line, and what is after it.
 pub(crate) fn first_word(line: &str) -> (&str, &str) {
@@ -98,6 +98,7 @@ fn other_step(alloc: Global, by: usize, verb: &str, n: Seq) -> Tried<Step> {
         "write-log" => Kind::Write(WriteStep::LogPending),
         "write-drop" => Kind::Write(WriteStep::DropPending),
         "write-close" => Kind::Write(WriteStep::CloseLog),
+        "write-base" => Kind::Write(WriteStep::FindBase),
         "write-segment" => Kind::Write(WriteStep::WriteSegment(n)),
         "write-use" => Kind::Write(WriteStep::UseSegment),
         "write-stop" => Kind::Write(WriteStep::StopLog),
@@ -151,6 +152,28 @@ fn locks_step(alloc: Global, by: usize, verb: &str, rest: &str) -> Tried<Step> {
     Ok(Step { by, kind })
 }
 
+/// Reads keys with a space between each two.
+fn keys_of(alloc: Global, words: &str) -> Tried<Vec<Key>> {
+    let mut keys = Vec::new(alloc);
+    for word in words.split(' ') {
+        keys.push(word_of(alloc, word)?)?;
+    }
+    Ok(keys)
+}
+
+/// Reads `note-unchanged NAME KEY NUMBER` or `note-locks NAME NUMBER KEY..`.
+fn note_step(alloc: Global, by: usize, verb: &str, rest: &str) -> Tried<Step> {
+    let (name, rest) = first_word(rest);
+    let name = word_of(alloc, name)?;
+    let (first, last) = first_word(rest);
+    let fact = match verb {
+        "note-unchanged" => Noted::Unchanged(name, word_of(alloc, first)?, number(last)?),
+        _ => Noted::LocksStay(name, number(first)?, keys_of(alloc, last)?),
+    };
+    let kind = Kind::Own(OwnStep::Note(Fact::of(fact)));
+    Ok(Step { by, kind })
+}
+
 /// Reads `set-batch NAME KEY VALUE`.
 fn batch_step(alloc: Global, by: usize, rest: &str) -> Tried<Step> {
     let (name, change) = first_word(rest);
@@ -175,6 +198,7 @@ pub(crate) fn step_of(alloc: Global, by: usize, line: &str) -> Tried<Step> {
         "load" => load_step(by, rest),
         "write-pend" => pending_step(alloc, by, rest),
         "set-batch" => batch_step(alloc, by, rest),
+        "note-unchanged" | "note-locks" => note_step(alloc, by, verb, rest),
         _ if verb.starts_with("locks-") => locks_step(alloc, by, verb, rest),
         _ => step_of_numbers(alloc, by, verb, rest),
     }

@@ -31,11 +31,11 @@ held_among holders contents j [] c there k = absurd there
 held_among holders contents j (d ∷ held) c there k =
     ⊎_elim (λ (e : d ≡ c). subst (λ (x : Content). Holds holders (turn_of x) j × (contents (turn_of x) ≡ x)) e (k.0, k.1)) (λ (other : IsIn c held). held_among holders contents j held c other k.3) there
 
--- a table that the view has is the world's, and its turn is the seat's
+-- a state that the view has is the world's, and its turn is the seat's
 pub held_is : (p : Place) (a : Actor) (w : World) (c : Content) → IsAt p a w → IsIn c a.held → Holds w.holders (turn_of c) p.by × (content_of w (turn_of c) ≡ c)
 held_is p a w c k there = held_among w.holders (content_of w) p.by a.held c there ((at_sound p a w k).held p.by a.held (at_map held_of w.actors p.by a k.there))
 
--- ---- which table it is
+-- ---- which state it is
 
 abbrev writes_in : WriteState → Content → WriteState
 writes_in t (writes d) = d

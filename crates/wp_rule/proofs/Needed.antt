@@ -23,7 +23,7 @@ use Rattle.wp_core.specs.Lists.{IsIn}
 use Rattle.wp_core.specs.Turns.{Turn, write_turn, prepared_turn, snapshots_turn, store_turn, locks_turn, tables_turn, Holds}
 use Rattle.wp_core.specs.Cache.{cache_place, cached, pair_at}
 use Rattle.wp_core.specs.States.{WriteState, StoreState, Installed, writes, prepared, snapshots, store, locks, installed}
-use Rattle.wp_core.specs.Views.{Fact, passed, in_old_commits, apart, words_stay, has_left, versions_in_memory, versions_nowhere, number_in_heap, number_not_in_heap, undecided_at, prior_values, unprepared, direct_free, tables_stay, live_listed, nothing_flushed, frozen_stay, delayed_flag_stays, old_flag_stays, pair_delayed, pair_not_delayed, none_waits}
+use Rattle.wp_core.specs.Views.{Fact, passed, in_old_commits, apart, words_stay, has_left, versions_in_memory, versions_nowhere, number_in_heap, number_not_in_heap, undecided_at, prior_values, unprepared, direct_free, unchanged, locks_stay, tables_stay, live_listed, nothing_flushed, frozen_stay, delayed_flag_stays, old_flag_stays, pair_delayed, pair_not_delayed, none_waits}
 use Rattle.wp_core.specs.World.{Transaction, Actor, World}
 use Rattle.wp_core.specs.Entries.{next_of, batch_of_name, extended, pending_pair, pair_by, pairs_of}
 use Rattle.wp_core.specs.Conditions.{IsHeldFor, MayPublish, MayLook, MayBeEvicted, NoneNext, MayGive, NamesSegment, NamesNext}
@@ -31,7 +31,7 @@ use Rattle.wp_core.specs.Reading.{Registration}
 use Rattle.wp_core.specs.Sound.Locks.{IsOwner, owner_of}
 use Rattle.wp_core.specs.Sound.Prepared.{IsInOldCommits, IsPassed, IsWide, IsEntered}
 use Rattle.wp_core.specs.Sound.Snapshots.{has_versions, has_versions_at, view_of}
-use Rattle.wp_core.specs.Steps.{Step, load_published, register, begin_reading, load, end_reading, make_pending, log_pending, close_log, find_log_closed, drop_pending, write_segment, use_segment, stop_log, add_prepared, take_pending_prepared, add_delayed_commit, delay_pending, take_out, register_again, release, add_old_commit, add_versions, take_versions, move_versions, replace_versions, install, renew, halt, find_edit, claim_name, take_name, leave_name, free_transaction, lock_key, free_key, lock_direct, free_direct, find_holder, tell, hear, set_batch, note, set_client, store_published, store_max_evicted, store_word, store_delayed_flag, store_old_flag, take_turn, give_turn, make_note, make_seat, learn, join_seat}
+use Rattle.wp_core.specs.Steps.{Step, load_published, register, begin_reading, load, end_reading, make_pending, log_pending, close_log, find_log_closed, find_base, drop_pending, write_segment, use_segment, stop_log, add_prepared, take_pending_prepared, add_delayed_commit, delay_pending, take_out, register_again, release, add_old_commit, add_versions, take_versions, move_versions, replace_versions, install, renew, halt, find_edit, claim_name, take_name, leave_name, free_transaction, lock_key, free_key, lock_direct, free_direct, find_holder, tell, hear, set_batch, note, set_client, store_published, store_max_evicted, store_word, store_delayed_flag, store_old_flag, take_turn, give_turn, make_note, make_seat, learn, join_seat}
 use Rattle.wp_core.specs.Needs.{Needs}
 use Rattle.wp_core.specs.Sound.Views.{IsGuarded, IsClearing, IsApart, IsInMemory, IsNowhere, IsSo}
 use Rattle.wp_core.specs.Sound.History.{IsRest}
@@ -84,7 +84,7 @@ rest_short entries (inr (inl one)) = one_short entries one
 rest_short entries (inr (inr closes)) = let e = ap length closes.1 in omega (arith, e)
 
 module _ (p : Place) (a : Actor) (w : World) (k : IsAt p a w) where
-  -- ---- tables
+  -- ---- states
 
   pub has_writes : (so : WriteState → Type 0) → Holding a writes so → Holds w.holders write_turn p.by × so w.writes
   has_writes so n = let h = held_is p a w (writes n.state) k n.held in (h.0, subst so (sym (is_state w (writes n.state) h.1)) n.so_is)
@@ -248,6 +248,8 @@ module _ (p : Place) (a : Actor) (w : World) (k : IsAt p a w) where
   facts (prior_values name q batch) n = (alone, (has_writes _ n).1)
   facts (unprepared name) n = let h = has_writes _ n in (alone, (h.1.0, h.1.1, λ x key has locked. free_of name x key h.1.1 has locked))
   facts (direct_free key) n = (alone, (n, owner.direct key n, free_direct_key key n))
+  facts (unchanged name key m) n = let h = has_writes _ n.1 in (alone, (n.0, h.1.0, h.1.1))
+  facts (locks_stay name q keys) n = let h = has_writes _ n in let g = has_locks _ h.1 in (alone, (g.1.0, λ is. g.1.1))
   facts (tables_stay versions floor) n = let h = has_installed _ n in let g = has_store _ h.1 in (guarded tables_turn h.0, g.1)
   facts (live_listed floor listed) n = let h = has_snapshots _ n in let low = no_longer in (alone, ((let f = h.1.0 in omega arith), h.1.1))
   facts nothing_flushed n = let h = has_installed _ n in let g = has_store _ h.1 in (guarded tables_turn h.0, g.1)
@@ -276,7 +278,7 @@ module _ (p : Place) (a : Actor) (w : World) (k : IsAt p a w) where
   -- ---- publishing
 
   held_for : (key : List ℕ) → KnowsHeld a key → IsHeldFor w a key
-  held_for key n = ⊎_elim (λ e. inl (e, owner.direct key e)) (λ e. inr (e.0, e.1, e.2, owner.keys e.0 e.1 key e.2 e.3)) n
+  held_for key n = ⊎_elim (λ e. inl (e, owner.direct key e)) (λ e. inr (e.0, e.1, e.2, owner.keys e.0 e.1 key e.2 e.3, (is_so (unprepared e.0) e.4).1)) n
 
   entered : (pair : CommitPair) (others : List Entry) → pending_pair w.writes.history w.writes.pending ≡ Some pair → KnowsEntered a p.cells pair → IsEntered w.cache w.prepared.delayed_commits w.max_evicted pair
   entered pair others is c =
@@ -346,8 +348,9 @@ module _ (p : Place) (a : Actor) (w : World) (k : IsAt p a w) where
   needed log_pending n = let h = has_writes _ n in (h.0, h.1.0, h.1.1, h.1.2)
   needed close_log n =
       let h = has_writes _ n in
-      (h.0, h.1.0, ⊎_elim (λ (some : (w.writes.pending ≢ []) × (w.writes.logged ≡ false)). inl some) (λ (none : (w.writes.pending ≡ []) × (w.writes.next ≡ None)). inr (none.0, λ next. none_some w.writes.next w.installed.last.segment none.1 next)) h.1.1)
+      (h.0, h.1.0, ⊎_elim (λ (some : (w.writes.pending ≢ []) × (w.writes.logged ≡ false)). inl some) (λ (none : (w.writes.pending ≡ []) × (w.writes.next ≡ None) × (w.writes.segment.base < length w.writes.history)). inr (none.0, (λ next. none_some w.writes.next w.installed.last.segment none.1 next), none.2)) h.1.1)
   needed find_log_closed n = has_writes _ n
+  needed find_base n = has_writes _ n
   needed drop_pending n =
       let h = has_writes _ n in let c = h.1.1 in let s = is_so (words_stay c.0 c.1) c.2 in
       (h.0, h.1.0, (λ pair is e. c.3 pair is (ap (λ (words : List ℕ). cached words pair.number) (sym s.1) ∙ e)), is_so pair_not_delayed h.1.2, is_so versions_nowhere h.1.3, is_so number_not_in_heap h.1.4)
@@ -371,7 +374,7 @@ module _ (p : Place) (a : Actor) (w : World) (k : IsAt p a w) where
   needed (take_name name q) n = let h = has_writes _ n in let g = has_locks _ h.1 in (g.0, g.1.0, g.1.1)
   needed (leave_name name) n = let h = has_locks _ n in let c = h.1.2 in let s = is_so (undecided_at name c.0) c.1 in (h.0, (h.1.0, h.1.1, λ key locked. batch_now name c.0 key s.1 c.2 (c.3 key locked)), ap is_some s.1)
   needed (free_transaction name) n = let h = has_locks _ n in (h.0, h.1.0, (is_so (unprepared name) h.1.1).1)
-  needed (lock_key name x key) n = let h = has_locks _ n in (h.0, h.1.0, h.1.1)
+  needed (lock_key name x key) n = let h = has_locks _ n in (h.0, h.1.0, h.1.1, (is_so (unprepared name) h.1.2).1)
   needed (free_key name x key) n = let h = has_locks _ n in (h.0, h.1.0, h.1.1, (is_so (unprepared name) h.1.2).1)
   needed (lock_direct key) n = let h = has_locks _ n in (h.0, h.1.0, h.1.1)
   needed (free_direct key) n = has_locks _ n

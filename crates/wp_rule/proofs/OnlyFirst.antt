@@ -135,6 +135,7 @@ module _ (w : World) (a : Actor) (others : List Actor) (is : w.actors ≡ a ∷ 
     keys_live = k.keys_live;
     keys_known = λ key name h j i o there. k.keys_known key name h j i o (up owner_of j i o there);
     keys_direct = λ key client h. direct_down key client (k.keys_direct key client h);
+    unchanged = k.unchanged;
   }
 
   -- ---- all parts
@@ -160,7 +161,9 @@ module _ (w : World) (a : Actor) (others : List Actor) (is : w.actors ≡ a ∷ 
     tables = total_down (total (λ (e : Event). one_if (is_tables_fault e))) past_of (λ client seen. refl) ∙ k.tables;
     not_logged = k.not_logged;
     stopped = λ n q. k.stopped n (past_up _ q);
+    based = λ n base q. let f = k.based n base (past_up _ q) in (f.0, λ edit made below. f.1 edit (past_up _ made) below);
     failed = λ entries q. k.failed entries (past_up _ q);
+    renewing = k.renewing;
     of_log = λ entries q. k.of_log entries (past_up _ q);
     behind = λ q. k.behind (past_up _ q);
     unfailed = λ q. k.unfailed (past_up _ q);
@@ -189,6 +192,8 @@ module _ (w : World) (a : Actor) (others : List Actor) (is : w.actors ≡ a ∷ 
     last = installed_down w.installed.last.flushed k.last;
     rises = λ n q. k.rises n (installed_up n q);
     placed = placed_down w.installed.last.segment k.placed;
+    risen = λ edit q. k.risen edit (past_up _ q);
+    based = λ n base q. based_down base (k.based n base (past_up _ q));
     found = λ n base tables due halted q. installed_down n (k.found n base tables due halted (past_up _ q));
     found_base = λ n base tables due halted q. based_down base (k.found_base n base tables due halted (past_up _ q));
     few = λ j i n base tables due halted d less. compacts_down j i (k.few j i n base tables due halted (done_up j i _ d) less);

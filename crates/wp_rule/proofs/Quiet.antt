@@ -1,4 +1,4 @@
--- Steps that change no word leave the words, the turns, the free tables and the other actors.
+-- Steps that change no word leave the words, the turns, the free states and the other actors.
 use Rattle.std.proofs.Common.{◌≡◌, ◌≢◌, ℕ, zero, suc, List, [], ◌∷◌, length, set, refl, sym, subst, ap, ◌∙◌, Some, None, option_map}
 use mathlib.Core.Option.{some}
 use Rattle.wp_judge.specs.declared.observed.Load.{Load}
@@ -9,7 +9,7 @@ use Rattle.wp_core.specs.Turns.{Turn, write_turn, prepared_turn, snapshots_turn,
 use Rattle.wp_core.specs.States.{Content, writes, prepared, snapshots, store, locks, installed, turn_of}
 use Rattle.wp_core.specs.World.{Actor, World, content_of, with_content}
 use Rattle.wp_core.specs.Changes.{with_actor, turn_index, loaded}
-use Rattle.wp_core.specs.Steps.{Step, load_published, register, begin_reading, load, end_reading, make_pending, log_pending, close_log, find_log_closed, drop_pending, write_segment, use_segment, stop_log, add_prepared, take_pending_prepared, add_delayed_commit, delay_pending, take_out, register_again, release, add_old_commit, add_versions, take_versions, move_versions, replace_versions, install, renew, halt, find_edit, claim_name, take_name, leave_name, free_transaction, lock_key, free_key, lock_direct, free_direct, find_holder, tell, hear, set_batch, note, set_client, store_published, store_max_evicted, store_word, store_delayed_flag, store_old_flag, take_turn, give_turn, make_note, make_seat, learn, join_seat}
+use Rattle.wp_core.specs.Steps.{Step, load_published, register, begin_reading, load, end_reading, make_pending, log_pending, close_log, find_log_closed, find_base, drop_pending, write_segment, use_segment, stop_log, add_prepared, take_pending_prepared, add_delayed_commit, delay_pending, take_out, register_again, release, add_old_commit, add_versions, take_versions, move_versions, replace_versions, install, renew, halt, find_edit, claim_name, take_name, leave_name, free_transaction, lock_key, free_key, lock_direct, free_direct, find_holder, tell, hear, set_batch, note, set_client, store_published, store_max_evicted, store_word, store_delayed_flag, store_old_flag, take_turn, give_turn, make_note, make_seat, learn, join_seat}
 use Rattle.wp_core.specs.Needs.{Needs}
 use Rattle.wp_core.specs.Notes.{forgets}
 use Rattle.wp_core.specs.Runs.{Reaches, goes_on}
@@ -29,7 +29,7 @@ same_contents w v a b c d e f store_turn = ap store d
 same_contents w v a b c d e f locks_turn = ap locks e
 same_contents w v a b c d e f tables_turn = ap installed f
 
--- a turn that is free is another than that of a table that is held
+-- a turn that is free is another than that of a state that is held
 pub free_else : (w : World) (by : ℕ) (c : Content) (turn : Turn) → Holds w.holders (turn_of c) by → turn_holder w.holders turn ≡ None → turn_index turn ≢ turn_index (turn_of c)
 free_else w by c turn holds free e = let q : Some by ≡ None = sym holds ∙ (sym (ap (turn_holder w.holders) (same_turn (turn_of c) turn e)) ∙ free) in absurd (cc)
 
@@ -74,6 +74,7 @@ quiet_step w by a (make_pending entries) quiet needs = changed w by _ (writes _)
 quiet_step w by a log_pending quiet needs = changed w by _ (writes _) needs.0 refl
 quiet_step w by a close_log quiet needs = changed w by _ (writes _) needs.0 refl
 quiet_step w by a find_log_closed quiet needs = alone w by _
+quiet_step w by a find_base quiet needs = alone w by _
 quiet_step w by a drop_pending quiet needs = changed w by _ (writes _) needs.0 refl
 quiet_step w by a (write_segment place) quiet needs = changed w by _ (writes _) needs.0 refl
 quiet_step w by a use_segment quiet needs = changed w by _ (writes _) needs.0 refl

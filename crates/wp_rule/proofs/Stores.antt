@@ -115,7 +115,7 @@ abbrev writes_or : WriteState → Content → WriteState
 writes_or t (writes d) = d
 writes_or t other = t
 
--- the table of the write turn that a view has is the world's
+-- the state of the write turn that a view has is the world's
 pub same_writes : (p : Place) (a : Actor) (w : World) (t : WriteState) → IsAt p a w → IsIn (writes t) a.held → w.writes ≡ t
 same_writes p a w t k held = ap (writes_or t) (held_is p a w (writes t) k held).1
 

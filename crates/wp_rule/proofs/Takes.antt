@@ -30,7 +30,7 @@ table_of w store_turn = refl
 table_of w locks_turn = refl
 table_of w tables_turn = refl
 
--- ---- a free turn is as it has to be to give it, and so it is once its table is held and its facts are noted
+-- ---- a free turn is as it has to be to give it, and so it is once its state is held and its facts are noted
 
 -- while the write turn is free no segment waits
 none_waits : (t : WriteState) (e : Installed) {holder : Option ℕ} → AreCoupled t e holder → holder ≡ None → NoneNext t
@@ -83,7 +83,7 @@ module _ (w : World) (by : ℕ) (a : Actor) where
   ends_none : (turn : Turn) → forgets w.writes.history (length w.cache) (take_turn turn) a ≡ a
   ends_none turn = forgets_nothing w.writes.history (length w.cache) (take_turn turn) a (take_ends turn)
 
-  -- the turn's table is held, and the fact is noted
+  -- the turn's state is held, and the fact is noted
   both_kept : (turn : Turn) (c : Content) (fact : Fact)
       → noted (forgets w.writes.history (length w.cache) (note fact) (holding (forgets w.writes.history (length w.cache) (take_turn turn) a) c)) fact ≡ noted (holding a c) fact
   both_kept turn c fact = ap (λ b. noted (forgets w.writes.history (length w.cache) (note fact) (holding b c)) fact) (ends_none turn) ∙ ap (λ b. noted b fact) (forgets_nothing w.writes.history (length w.cache) (note fact) (holding a c) (note_ends fact))

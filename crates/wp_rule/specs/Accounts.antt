@@ -7,7 +7,7 @@ use Rattle.wp_model.specs.declared.holder.Holder.TheVariants.{Txn, Client}
 use Rattle.wp_core.specs.Views.{Account, own, another, prepare_at}
 use Rattle.wp_core.specs.World.{Participant}
 
--- the table has the holder of the key; where no key is given, the holder is a live name
+-- the locks have the holder of the key; where no key is given, the holder is a live name
 abbrev pub IsHolderIn : LockState → Option (List ℕ) → Holder → Type 0
 IsHolderIn t (Some key) holder = finite.get t.keys key ≡ Some holder
 IsHolderIn t None holder = (name : List ℕ) × (holder ≡ Txn name) × (is_some (finite.get t.names name) ≡ true)

@@ -10,6 +10,7 @@ use Rattle.wp_model.specs.declared.version.Version.{Version}
 use Rattle.wp_model.specs.Covered.{IsCovered, is_among}
 use Rattle.wp_model.specs.Flushed.{InstalledEdit, IsEditCovered}
 use Rattle.wp_model.specs.Decision.{decision_of, version_in}
+use Rattle.wp_model.specs.Changed.{IsUnchanged}
 use Rattle.wp_model.specs.History.{named, batch_at, is_changed, is_prepare}
 use Rattle.wp_model.specs.Versions.{version_at}
 use Rattle.wp_model.specs.Legal.{IsLegal, prior}
@@ -25,26 +26,26 @@ use Rattle.wp_core.specs.Lists.{IsIn}
 use Rattle.wp_core.specs.Turns.{Turn, write_turn, prepared_turn, snapshots_turn, store_turn, locks_turn, tables_turn}
 use Rattle.wp_core.specs.Cache.{cached, cache_place, pair_at}
 use Rattle.wp_core.specs.States.{WriteState, StoreState, Installed, Content, writes, prepared, snapshots, store, locks, installed, up_to}
-use Rattle.wp_core.specs.Views.{Fact, passed, in_old_commits, apart, words_stay, has_left, versions_in_memory, versions_nowhere, number_in_heap, number_not_in_heap, pair_delayed, pair_not_delayed, none_waits, undecided_at, prior_values, unprepared, direct_free, tables_stay, live_listed, nothing_flushed, frozen_stay, delayed_flag_stays, old_flag_stays}
+use Rattle.wp_core.specs.Views.{Fact, passed, in_old_commits, apart, words_stay, has_left, versions_in_memory, versions_nowhere, number_in_heap, number_not_in_heap, pair_delayed, pair_not_delayed, none_waits, undecided_at, prior_values, unprepared, direct_free, unchanged, locks_stay, tables_stay, live_listed, nothing_flushed, frozen_stay, delayed_flag_stays, old_flag_stays}
 use Rattle.wp_core.specs.World.{Transaction, Actor, World}
 use Rattle.wp_model.specs.Record.{IsOneRecord}
-use Rattle.wp_core.specs.Entries.{next_of, pair_by, pending_pair, pairs_of, transaction_of, changes_under, HasVersionsAt}
+use Rattle.wp_core.specs.Entries.{next_of, pair_by, pending_pair, pairs_of, transaction_of, changes_under, written, HasVersionsAt}
 use Rattle.wp_core.specs.Conditions.{HasTransaction, IsPrepare, NoneNext}
 use Rattle.wp_core.specs.Sound.Prepared.{IsInOldCommits}
 use Rattle.wp_core.specs.Sound.Snapshots.{has_versions_at}
 use Rattle.wp_core.specs.Sound.Store.{NoneFlushed}
-use Rattle.wp_core.specs.Sound.Views.{IsApart, HasLeft, IsInMemory, IsNowhere, IsDelayed, IsUndelayed, Owns}
-use Rattle.wp_core.specs.Steps.{Step, load_published, register, begin_reading, load, end_reading, store_published, store_max_evicted, store_word, store_delayed_flag, store_old_flag, give_turn, make_pending, log_pending, close_log, find_log_closed, drop_pending, write_segment, use_segment, stop_log, add_prepared, take_pending_prepared, add_delayed_commit, delay_pending, take_out, register_again, release, add_old_commit, add_versions, take_versions, move_versions, replace_versions, install, renew, halt, find_edit, claim_name, take_name, leave_name, free_transaction, lock_key, free_key, lock_direct, free_direct, tell, hear, set_batch, note, set_client}
+use Rattle.wp_core.specs.Sound.Views.{IsApart, HasLeft, IsInMemory, IsNowhere, IsDelayed, IsUndelayed, Owns, OwnsKey, AreKeysOf}
+use Rattle.wp_core.specs.Steps.{Step, load_published, register, begin_reading, load, end_reading, store_published, store_max_evicted, store_word, store_delayed_flag, store_old_flag, give_turn, make_pending, log_pending, close_log, find_log_closed, find_base, drop_pending, write_segment, use_segment, stop_log, add_prepared, take_pending_prepared, add_delayed_commit, delay_pending, take_out, register_again, release, add_old_commit, add_versions, take_versions, move_versions, replace_versions, install, renew, halt, find_edit, claim_name, take_name, leave_name, free_transaction, lock_key, free_key, lock_direct, free_direct, tell, hear, set_batch, note, set_client}
 use Rattle.wp_rule.specs.Bound.{bound_past}
 use Rattle.wp_rule.specs.Words.{Place}
 
--- the view has a table of this kind, of which this is so
+-- the view has a state of this kind, of which this is so
 pub record Holding (a : Actor) {T : Type 0} (content : T → Content) (so : T → Type 0) : Type 0 where
   pub state : T
   pub held : IsIn (content state) a.held
   pub so_is : so state
 
--- the table is the world's
+-- the state is the world's
 abbrev pub IsStateOf : World → Content → Type 0
 IsStateOf w (writes t) = w.writes ≡ t
 IsStateOf w (prepared t) = w.prepared ≡ t
@@ -61,7 +62,7 @@ Noted a fact = IsIn fact a.notes
 abbrev pub IsUp : Actor → (ℕ → Fact) → Type 0
 IsUp a flag = (value : ℕ) × Noted a (flag value) × (value ≢ 0)
 
--- a look into a table needs the table
+-- a look into a state needs the state
 abbrev pub KnowsLook : Actor → Load → Type 0
 KnowsLook a InPrepared = Holding a prepared (λ t. Unit {0})
 KnowsLook a IsOldCommit = Holding a snapshots (λ m. Unit {0})
@@ -133,15 +134,17 @@ KnowsFact a (undecided_at name q) = Holding a writes (λ d. Owns a.participant n
 KnowsFact a (prior_values name q batch) = Holding a writes (λ d. Owns a.participant name × (named d.history name ≡ Some q) × (prior d.history (batch_at d.history q) ≡ batch))
 KnowsFact a (unprepared name) = Holding a writes (λ d. Owns a.participant name × (named d.history name ≡ None))
 KnowsFact a (direct_free key) = a.participant.direct ≡ Some key
+KnowsFact a (unchanged name key n) = OwnsKey a.participant name key × Holding a writes (λ d. (n ≤ length d.history) × IsUnchanged d.history key n)
+KnowsFact a (locks_stay name q keys) = Holding a writes (λ d. Holding a locks (λ t. (q ≤ length d.history) × AreKeysOf t.keys name keys))
 KnowsFact a (tables_stay versions floor) = Holding a installed (λ e. Holding a store (λ t. (t.tables ≡ versions) × (t.floor ≡ floor)))
 KnowsFact a (live_listed floor listed) = Holding a snapshots (λ m. (floor ≤ length a.participant.seen) × ((n : ℕ) → IsLive m n → (is_among listed n ≡ true) ⊎ (floor ≤ n)))
 KnowsFact a nothing_flushed = Holding a installed (λ e. Holding a store (λ t. NoneFlushed t.memory e.last.flushed))
 KnowsFact a (frozen_stay n versions) = Holding a installed (λ e. Holding a store (λ t. (n ≤ length a.participant.seen) × ((key : List ℕ) (q : ℕ) → q ≤ n → version_at t.memory key q ≡ version_at versions key q)))
 KnowsFact a other = ⊥
 
--- the key is held for the seat
+-- the key is held for the seat: for its direct write, or for a transaction of it that is not prepared
 abbrev pub KnowsHeld : Actor → List ℕ → Type 0
-KnowsHeld a key = (a.participant.direct ≡ Some key) ⊎ ((name : List ℕ) × (x : Transaction) × HasTransaction a name x × (set.contains x.locked key ≡ true))
+KnowsHeld a key = (a.participant.direct ≡ Some key) ⊎ ((name : List ℕ) × (x : Transaction) × HasTransaction a name x × (set.contains x.locked key ≡ true) × Noted a (unprepared name))
 
 -- the pair is where a reader finds it: in its word, or, where it is too wide for one, a delayed commit that the bound has reached
 abbrev pub KnowsEntered : Actor → ℕ → CommitPair → Type 0
@@ -154,7 +157,7 @@ pub record KnowsPublish (a : Actor) (cells : ℕ) (d : WriteState) (entry : Entr
   pub logged : d.logged ≡ true
   pub legal : IsLegal (d.history ++ entry ∷ [])
   pub versions : Noted a versions_in_memory
-  pub keys : (key : List ℕ) → is_changed (changes_under d.history entry) key ≡ true → KnowsHeld a key
+  pub keys : (key : List ℕ) → is_changed (written entry) key ≡ true → KnowsHeld a key
   pub transaction : (name : List ℕ) → transaction_of d.history entry ≡ Some name
       → (x : Transaction) × HasTransaction a name x × ((key : List ℕ) → is_changed (changes_under d.history entry) key ≡ true → set.contains x.locked key ≡ true)
   pub number : IsPrepare entry → Noted a number_in_heap
@@ -225,8 +228,9 @@ Knows p a (store_old_flag value) = Holding a snapshots (λ m. value ≡ 0 → No
 Knows p a (give_turn turn) = KnowsGive a turn
 Knows p a (make_pending entries) = Holding a writes (λ d. (d.pending ≡ []) × IsOneRecord entries × IsLegal (d.history ++ entries) × NoneNext d)
 Knows p a log_pending = Holding a writes (λ d. (d.pending ≢ []) × (d.logged ≡ false) × (d.closed ≡ false))
-Knows p a close_log = Holding a writes (λ d. (d.closed ≡ false) × (((d.pending ≢ []) × (d.logged ≡ false)) ⊎ ((d.pending ≡ []) × (d.next ≡ None))))
+Knows p a close_log = Holding a writes (λ d. (d.closed ≡ false) × (((d.pending ≢ []) × (d.logged ≡ false)) ⊎ ((d.pending ≡ []) × (d.next ≡ None) × (d.segment.base < length d.history))))
 Knows p a find_log_closed = Holding a writes (λ d. d.closed ≡ true)
+Knows p a find_base = Holding a writes (λ d. NoneNext d)
 Knows p a drop_pending =
     Holding a writes (λ d. (d.logged ≡ false)
     × ((max : ℕ) × (words : List ℕ) × Noted a (words_stay max words) × ((pair : CommitPair) → pending_pair d.history d.pending ≡ Some pair → cached words pair.number ≢ Some pair.decision))
@@ -257,7 +261,7 @@ Knows p a (claim_name name) = Holding a locks (λ t. (finite.get t.names name �
 Knows p a (take_name name q) = Holding a writes (λ d. Holding a locks (λ t. (finite.get t.names name ≡ Some None) × (named d.history name ≡ Some q)))
 Knows p a (leave_name name) = Holding a locks (λ t. (x : Transaction) × HasTransaction a name x × KnowsLeft a name x)
 Knows p a (free_transaction name) = Holding a locks (λ t. ((x : Transaction) × HasTransaction a name x) × Noted a (unprepared name))
-Knows p a (lock_key name x key) = Holding a locks (λ t. HasTransaction a name x × (finite.get t.keys key ≡ None))
+Knows p a (lock_key name x key) = Holding a locks (λ t. HasTransaction a name x × (finite.get t.keys key ≡ None) × Noted a (unprepared name))
 Knows p a (free_key name x key) = Holding a locks (λ t. HasTransaction a name x × (set.contains x.locked key ≡ true) × Noted a (unprepared name))
 Knows p a (lock_direct key) = Holding a locks (λ t. (a.participant.direct ≡ None) × (finite.get t.keys key ≡ None))
 Knows p a (free_direct key) = Holding a locks (λ t. a.participant.direct ≡ Some key)

@@ -87,7 +87,7 @@ MayStep p a step = (w : World) → IsAt p a w → Needs w p.by a step
 abbrev pub MayMake : Place → Actor → (World → List Step) → Type 0
 MayMake p a steps = (w : World) → IsAt p a w → AreQuiet (steps w) × AreMet (steps w) w p.by a
 
--- What steps leave of a world: these words, the turns as they were, each free turn's table as it was, and no other actor
+-- What steps leave of a world: these words, the turns as they were, each free turn's state as it was, and no other actor
 -- changed than their own, which is now this one.
 pub record Leave (by : ℕ) (w : World) (words : List ℕ) (last : World) (b : Actor) : Type 0 where
   pub words_are : words_of last ≡ words
@@ -144,7 +144,7 @@ publishing (entry ∷ others) = store_published entry others ∷ []
 abbrev pub taking_name : List ℕ → World → List Step
 taking_name name w = let p = unwrap_or (named w.writes.history name) 0 in load_published ∷ take_name name p ∷ note (undecided_at name p) ∷ []
 
--- The first of the pending entries may be published as this number: the view has the table of the write turn, in which it is
+-- The first of the pending entries may be published as this number: the view has the state of the write turn, in which it is
 -- the first, and the number is the next.
 pub record MayPublishAs (p : Place) (a : Actor) (number : ℕ) : Type 0 where
   pub state : WriteState

@@ -16,7 +16,7 @@ use Rattle.wp_rule.specs.Shows.{IsPart}
 
 -- ---- a turn that was found free
 
--- What it guards besides its table: bound and words, a flag, or which versions are in tables, and that no flushed one is in memory.
+-- What it guards besides its state: bound and words, a flag, or which versions are in tables, and that no flushed one is in memory.
 -- What is noted last stands first.
 abbrev pub facts_at : Turn → World → List Fact
 facts_at write_turn w = words_stay w.max_evicted w.cache ∷ []
@@ -29,7 +29,7 @@ facts_at other w = []
 abbrev pub taking : Turn → World → List machine.Step
 taking turn w = take_turn turn ∷ map note (reverse (facts_at turn w))
 
--- the actor then: it has the table, and has noted these
+-- the actor then: it has the state, and has noted these
 abbrev pub with_turn : Turn → World → Actor → Actor
 with_turn turn w a = record a { held = content_of w turn ∷ a.held; notes = facts_at turn w ++ a.notes }
 
@@ -51,26 +51,26 @@ module _ {S : Type 0} (p : Place) where
 -- ---- turns
 
 module _ {S : Type 0} (content : S → Option Content) (tells : S → Type 0) where
-  -- the value is the turn's table as its holder left that at its last step
+  -- the value is the turn's state as its holder left that at its last step
   pub record IsLeft (turn : Turn) (a : Actor) (value : S) : Type 0 where
     pub state : Content
     pub held : IsIn state a.held
     pub of_turn : turn_of state ≡ turn
     pub is_part : IsPart content tells value state
 
-  -- the value may lie in the slot of a turn that is held: it stands in for one that is out, or it is the table as it was left
+  -- the value may lie in the slot of a turn that is held: it stands in for one that is out, or it is the state as it was left
   abbrev pub MayLie : Turn → Actor → S → Type 0
   MayLie turn a value = (content value ≡ None) ⊎ IsLeft turn a value
 
   module _ (p : Place) where
-    -- The turn may be given: it was taken last, and the value in its slot is its table as it was left.
+    -- The turn may be given: it was taken last, and the value in its slot is its state as it was left.
     pub record MayUnclaim (turn : Turn) (m : Me S Actor) : Type 0 where
       pub value : S
       pub last_taken : m.1 ≡ (turn_index turn, value) ∷ rest m.1
       pub left : IsLeft turn m.0 value
       pub may : MayStep p m.0 (give_turn turn)
 
-    -- The turn was free, with its table behind it, and all was so as it has to be to give it: so it may be given at once.
+    -- The turn was free, with its state behind it, and all was so as it has to be to give it: so it may be given at once.
     pub record Claimed (turn : Turn) (m m' : Me S Actor) : Type 0 where
       pub value : S
       pub moved : Moved p (taking turn) (λ w. (turn_holder w.holders turn ≡ None) × IsPart content tells value (content_of w turn) × MayGive w turn) m.0 m'.0

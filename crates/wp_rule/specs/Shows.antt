@@ -25,11 +25,11 @@ abbrev pub WasLast : {S : Type 0} → (S → Option Content) → List S → Inst
 WasLast content first edit = first_edit_of content first ≡ Some edit
 
 module _ {S : Type 0} (content : S → Option Content) (tells : S → Type 0) where
-  -- the value stands for the table, and its devices tell what they should
+  -- the value stands for the state, and its devices tell what they should
   abbrev pub IsPart : S → Content → Type 0
   IsPart x c = (content x ≡ Some c) × tells x
 
-  -- behind a free turn the value is home and stands for the turn's table; behind a held one it is out
+  -- behind a free turn the value is home and stands for the turn's state; behind a held one it is out
   abbrev pub Rests : Option ℕ → Content → maybe.Option (maybe.Option S) → Type 0
   Rests None c home = (x : S) × (home ≡ some (some x)) × IsPart x c
   Rests (Some by) c home = home ≡ some none
@@ -46,7 +46,7 @@ module _ {S : Type 0} (content : S → Option Content) (tells : S → Type 0) wh
     pub rests : (turn : Turn) → Rests (turn_holder world.holders turn) (content_of world turn) (get_elem? s.homes (turn_index turn))
     pub views : s.views ≡ world.actors
 
-  -- the slots in the order of the turns, each with the table of an opening world
+  -- the slots in the order of the turns, each with the state of an opening world
   pub record Founds (client : List ℕ) (opened : List Entry) (cells delayed_flag : ℕ) (slots : List S) : Type 0 where
     pub world : World
     pub opening : IsOpening world
@@ -58,7 +58,7 @@ module _ {S : Type 0} (content : S → Option Content) (tells : S → Type 0) wh
     pub parts : (turn : Turn) → (x : S) × (get_elem? slots (turn_index turn) ≡ some x) × IsPart x (content_of world turn)
 
   -- What the closed table leaves: the world that it showed at the end, in which no turn is held, and behind each turn its
-  -- table. Nobody did anything but the participants of the first seat: the world is sound with that seat as its only actor.
+  -- state. Nobody did anything but the participants of the first seat: the world is sound with that seat as its only actor.
   pub record Leaves (first : List S) (p : Place) (a : Actor) (parts : Turn → S) : Type 0 where
     pub world : World
     pub before : IsAt p a world

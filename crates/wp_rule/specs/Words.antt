@@ -69,7 +69,7 @@ pub record SharedWords (S : Type 0) : Type 0 where
 abbrev pub shared_words : {S : Type 0} → TableId → Opening S → SharedWords S
 shared_words table key = record { table = table; opened = key.entries.value.entries; cells = key.cells; first = key.first.value.items }
 
--- the last edit, where it is the table of the tables turn
+-- the last edit, where it is the state of the tables turn
 abbrev pub last_edit_in : Option Content → Option InstalledEdit
 last_edit_in (Some (installed t)) = Some t.last
 last_edit_in other = None

@@ -30,7 +30,7 @@ pub fn one_edit_was_first<S>()
     ensures { (content : S → Option Content) (first : List S) (one other : InstalledEdit) → WasLast content first one → WasLast content first other → one ≡ other }
 {}
 
-/// A table that the view has is the world's, and its turn is the seat's.
+/// A state that the view has is the world's, and its turn is the seat's.
 pub fn held_tables_are_the_worlds()
     ensures { (p : Place) (a : Actor) (w : World) (c : Content) → IsAt p a w → IsIn c a.held → Holds w.holders (turn_of c) p.by × (content_of w (turn_of c) ≡ c) }
 {}
@@ -93,7 +93,7 @@ pub fn names_may_be_taken()
     ensures { (p : Place) (a : Actor) (name : List ℕ) → Holding a locks (λ t. finite.get t.names name ≡ Some None) → MayMake p a (taking_name name) }
 {}
 
-/// The holder of a key or else of a live name, by the table of the locks turn, may be remembered: it is accounted for.
+/// The holder of a key or else of a live name, by the state of the locks turn, may be remembered: it is accounted for.
 pub fn holders_are_accounted_for()
     ensures { (p : Place) (a : Actor) (key : Option (List ℕ)) (holder : Holder) → Holding a locks (λ t. IsHolderIn t key holder)
         → MayMake p a (λ w. find_holder key holder (account_of a.participant w.locks (length w.writes.history) key holder) ∷ []) }

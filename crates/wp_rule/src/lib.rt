@@ -7,11 +7,11 @@
 //! The rule says that the table shows a world, and has the run of the machine that led to it. So each load, store, claim and
 //! unclaim is steps of the machine by the seat's actor, and all that is proved of reached worlds holds of the table at
 //! each moment. A store is followed by the note of what was stored, and a claim by the notes of what its turn guards, in
-//! the same moment. Steps that change no word, as those that change a table that the seat holds, are told to the rule at
+//! the same moment. Steps that change no word, as those that change a state that the seat holds, are told to the rule at
 //! a load: `make` loads the published number and makes them there. Each call says who the actor is after its steps.
 //!
-//! While a turn is held its value is out of its slot, and the rule asks nothing of it: what the turn's table is stands in the
-//! holder's view, as the holder left it at its last step. The value goes home as that table alone, with its devices.
+//! While a turn is held its value is out of its slot, and the rule asks nothing of it: what the turn's state is stands in the
+//! holder's view, as the holder left it at its last step. The value goes home as that state alone, with its devices.
 //!
 //! No call waits but `park`, and none takes memory but `Words::new`.
 #![tactic(auto)]

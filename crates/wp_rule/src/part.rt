@@ -4,7 +4,7 @@ ghost use Rattle.wp_core.specs.States.{Content};
 
 /// A value behind a turn, or one that stands in its slot while it is out.
 pub trait HoldsPart {
-    /// The table that it is; none where it only stands in for one.
+    /// The state that it is; none where it only stands in for one.
     ghost content: { Self → Option Content };
 
     /// What its devices tell, while its turn is free. The list has the values behind the turns as the table was made.

@@ -128,8 +128,8 @@ impl<S: HoldsPart + Drop> Words<S> {
         steps::load::<S, Brand>(&self.table.shared, seat, PUBLISHED)
     }
 
-    /// Loads the published number, and makes there the steps that the caller picks: changes of tables that the seat
-    /// holds, what it registers, notes or finds, and what it reads in tables.
+    /// Loads the published number, and makes there the steps that the caller picks: changes of states that the seat
+    /// holds, what it registers, notes or finds, and what it reads in states.
     pub fn make<J: Moves>(&self, seat: &mut WordSeat<S>) -> Seq
         requires seat { (seat.old.table_id ≡ self.now.table) × (J.place ≡ place_of S.content self.now seat.old.id) }
         requires may { MayMake J.place seat.old.me.0 J.steps }
@@ -151,7 +151,7 @@ impl<S: HoldsPart + Drop> Words<S> {
     }
 
     /// Publishes the first of the pending entries, which gets this number. The caller holds the write turn, and its view has the
-    /// turn's table.
+    /// turn's state.
     pub fn store_published(&self, seat: &mut WordSeat<S>, p: Seq)
         requires seat { seat.old.table_id ≡ self.now.table }
         requires next { MayPublishAs (place_of S.content self.now seat.old.id) seat.old.me.0 p }
@@ -204,7 +204,7 @@ impl<S: HoldsPart + Drop> Words<S> {
         steps::store::<S, Brand>(&self.table.shared, seat, OLD_FLAG, value);
     }
 
-    /// One try to take a turn: false exactly where the turn was found held. The seat notes what the turn guards besides its table.
+    /// One try to take a turn: false exactly where the turn was found held. The seat notes what the turn guards besides its state.
     pub fn claim(&self, seat: &mut WordSeat<S>, turn: Turn) -> bool
         requires seat { seat.old.table_id ≡ self.now.table }
         requires live { seat.old.me.0.live ≡ true }
@@ -227,7 +227,7 @@ impl<S: HoldsPart + Drop> Words<S> {
     }
 
     /// Puts a value into the slot of the turn that was taken last, for the one that lies there: one that stands in for it, or
-    /// home again the turn's table as the seat left it. The view stays as it is.
+    /// home again the turn's state as the seat left it. The view stays as it is.
     pub fn exchange(&self, seat: &mut WordSeat<S>, turn: Turn, value: S) -> S
         requires seat { seat.old.table_id ≡ self.now.table }
         requires turn { (x : S) × (seat.old.me.1 ≡ (turn_index (turn_of turn), x) ∷ rest seat.old.me.1) }

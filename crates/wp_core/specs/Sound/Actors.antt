@@ -67,12 +67,12 @@ abbrev pub NoneAfter : Turn → List Content → Type 0
 NoneAfter turn [] = Unit {0}
 NoneAfter turn (first ∷ others) = (turn_of first ≢ turn) × NoneAfter turn others
 
--- each table that an actor holds is as the world has it, its turn is the actor's, and none is there twice
+-- each state that an actor holds is as the world has it, its turn is the actor's, and none is there twice
 abbrev pub AreHeld : Holders → (Turn → Content) → ℕ → List Content → Type 0
 AreHeld holders contents j [] = Unit {0}
 AreHeld holders contents j (c ∷ others) = Holds holders (turn_of c) j × (contents (turn_of c) ≡ c) × NoneAfter (turn_of c) others × AreHeld holders contents j others
 
--- who holds a turn has the table that it guards
+-- who holds a turn has the state that it guards
 abbrev pub HoldersHave : Holders → List (List Content) → Type 0
 HoldersHave holders helds = (turn : Turn) (j : ℕ) → Holds holders turn j → (held : List Content) × (get_elem? helds j ≡ some held) × (c : Content) × IsIn c held × (turn_of c ≡ turn)
 

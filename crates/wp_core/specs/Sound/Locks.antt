@@ -3,6 +3,7 @@ use Rattle.std.specs.Prelude.{◌≡◌, ◌⊎◌, ℕ, ◌≤◌, true, List, 
 use Rattle.std.specs.FinSet as set
 use Rattle.std.specs.FinMap as finite
 use Rattle.wp_model.specs.declared.entry.Entry.{Entry}
+use Rattle.wp_model.specs.Changed.{IsUnchanged}
 use Rattle.wp_model.specs.History.{is_undecided, is_changed, name_at, batch_at, named}
 use Rattle.wp_model.specs.declared.holder.Holder.TheVariants.{Txn, Client}
 use Rattle.wp_core.specs.Lists.{IsIn}
@@ -67,7 +68,7 @@ PrepareHas opened history name key = (n : ℕ) × WasPrepared history (length op
 abbrev pub CameToKey : (opened history : List Entry) → List Event → (name key : List ℕ) → Type 0
 CameToKey opened history past name key = IsIn (locked key (Txn name)) past ⊎ (IsIn (took name) past × PrepareHas opened history name key)
 
--- what an owner has is in the table, and each key of its transactions it came to itself
+-- what an owner has is in the state, and each key of its transactions it came to itself
 pub record IsOwner (opened history : List Entry) (t : LockState) (o : Owner) : Type 0 where
   pub names : (name : List ℕ) (x : Transaction) → Has o name x → finite.get t.names name ≡ Some (Some o.client)
   pub keys : (name : List ℕ) (x : Transaction) (key : List ℕ) → Has o name x → set.contains x.locked key ≡ true → finite.get t.keys key ≡ Some (Txn name)
@@ -81,7 +82,7 @@ pub record AreApart (owners : List (List Owner)) : Type 0 where
 
 -- Each undecided prepare has its name live and its keys held; nothing else is live, and a key is held for a live
 -- transaction or as a direct write's alone. A live name that nobody has is an undecided prepare's, and so is each key that
--- is held for it.
+-- is held for it. A key that is held for the transaction of an undecided prepare is unchanged since it.
 pub record AreLocked (opened history : List Entry) (t : LockState) (owners : List (List Owner)) : Type 0 where
   pub prepared_names : (p : ℕ) → is_undecided history p ≡ true → is_some (finite.get t.names (name_at history p)) ≡ true
   pub prepared_keys : (p : ℕ) (key : List ℕ) → is_undecided history p ≡ true → is_changed (batch_at history p) key ≡ true → finite.get t.keys key ≡ Some (Txn (name_at history p))
@@ -93,3 +94,4 @@ pub record AreLocked (opened history : List Entry) (t : LockState) (owners : Lis
   pub keys_live : (key name : List ℕ) → finite.get t.keys key ≡ Some (Txn name) → is_some (finite.get t.names name) ≡ true
   pub keys_known : (key name : List ℕ) → finite.get t.keys key ≡ Some (Txn name) → EachParticipant (λ o. (x : Transaction) → Has o name x → set.contains x.locked key ≡ true) owners
   pub keys_direct : (key client : List ℕ) → finite.get t.keys key ≡ Some (Client client) → IsDirectOf owners key client
+  pub unchanged : (key name : List ℕ) (p : ℕ) → named history name ≡ Some p → finite.get t.keys key ≡ Some (Txn name) → IsUnchanged history key p

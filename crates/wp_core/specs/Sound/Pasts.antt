@@ -10,7 +10,7 @@ use Rattle.wp_core.specs.Lists.{IsIn, one_if, total}
 use Rattle.wp_model.specs.LockState.{LockState}
 use Rattle.wp_core.specs.States.{WriteState, Installed}
 use Rattle.wp_model.specs.Flushed.{InstalledEdit}
-use Rattle.wp_core.specs.Views.{Account, own, another, prepare_at, Event, claimed, took, locked, told, heard, installed, renewed, log_failed, log_stopped, tables_failed, stopped, found_edit, found}
+use Rattle.wp_core.specs.Views.{Account, own, another, prepare_at, Event, claimed, took, locked, told, heard, installed, renewed, log_failed, log_stopped, tables_failed, stopped, based_at, found_edit, found}
 use Rattle.wp_core.specs.World.{Participant}
 use Rattle.wp_core.specs.Sound.Actors.{IsParticipantAt, total_participants}
 use Rattle.wp_core.specs.Sound.Locks.{WasPrepared, PrepareHas}
@@ -88,13 +88,21 @@ abbrev pub is_tables_fault : Event → Bool
 is_tables_fault (tables_failed last edit) = true
 is_tables_fault other = false
 
+-- no renewal has a base above this one and below that number
+abbrev pub NoneBetween : List (List (List Event)) → ℕ → ℕ → Type 0
+NoneBetween pasts base n = (edit : InstalledEdit) → IsPast pasts (renewed edit) → edit.segment.base < n → edit.segment.base ≤ base
+
 pub record AreFaults (writes : WriteState) (halted : Bool) (pasts : List (List (List Event))) : Type 0 where
   pub log : times_past closes_log pasts ≡ one_if writes.closed
   pub tables : times_past is_tables_fault pasts ≡ one_if halted
   pub not_logged : writes.closed ≡ true → (writes.pending ≡ []) ⊎ (writes.logged ≡ false)
   pub stopped : (n : ℕ) → IsPast pasts (stopped n) → (writes.closed ≡ true) × (n ≡ length writes.history)
+  -- the base that it was found with is the last one so far: a later renewal's is no lower than what was published then
+  pub based : (n base : ℕ) → IsPast pasts (based_at n base) → (n ≤ length writes.history) × NoneBetween pasts base n
   -- the record whose append failed is the one that the log may have
   pub failed : (entries : List Entry) → IsPast pasts (log_failed entries) → (writes.closed ≡ true) × (writes.failed ≡ entries)
+  -- where it was the write of a segment, there was something to renew
+  pub renewing : writes.closed ≡ true → writes.stopped ≡ false → writes.failed ≡ [] → writes.segment.base < length writes.history
   pub of_log : (entries : List Entry) → IsPast pasts (log_failed entries) → writes.stopped ≡ false
   -- it was stopped only where the devices of the tables had failed, and then no append failed
   pub behind : IsPast pasts log_stopped → halted ≡ true
@@ -154,17 +162,19 @@ OtherInstalls pasts j i = (e : Event) × (is_install e ≡ true) × OtherDid pas
 abbrev pub OtherCompacts : List (List (List Event)) → ℕ → ℕ → Type 0
 OtherCompacts pasts j i = (edit : InstalledEdit) × OtherDid pasts j i (installed edit true)
 
--- The last edit's flushed number is the opening's, a flush's or a renewal's, of which none is greater, and so is each that was found; its
--- segment is the opening's or a renewal's, and so is each base that was found. It is the edit that a participant installed last, unless
--- another one installed one, and has at least the tables that this one knows of, unless another one compacted; so has the edit that was
--- found. Where the devices failed, it is that one still, and so is the one whose install failed; and it has the flushed number that was
--- found once they had failed.
+-- The last edit's flushed number is the opening's, a flush's or a renewal's, of which none is greater, and so is each that was found. Its
+-- segment is the opening's or a renewal's, and so is each base that was found; no renewal has a base above its one or below the opening's.
+-- It is the edit that a participant installed last, unless another one installed one, and has at least the tables that this one knows
+-- of, unless another one compacted; so has the edit that was found. Where the devices failed, it is that one still, and so is the one
+-- whose install failed; and it has the flushed number that was found once they had failed.
 pub record AreEdits (first : InstalledEdit) (t : Installed) (pasts : List (List (List Event))) : Type 0 where
   pub last : WasInstalled first pasts t.last.flushed
   pub rises : (n : ℕ) → WasInstalled first pasts n → n ≤ t.last.flushed
   pub placed : WasPlaced first pasts t.last.segment
+  pub risen : (edit : InstalledEdit) → IsPast pasts (renewed edit) → (first.segment.base ≤ edit.segment.base) × (edit.segment.base ≤ t.last.segment.base)
   pub found : (n base tables due : ℕ) (halted : Bool) → IsPast pasts (found_edit n base tables due halted) → WasInstalled first pasts n
   pub found_base : (n base tables due : ℕ) (halted : Bool) → IsPast pasts (found_edit n base tables due halted) → WasBased first pasts base
+  pub based : (n base : ℕ) → IsPast pasts (based_at n base) → WasBased first pasts base
   pub few : (j i n base tables due : ℕ) (halted : Bool) → HasDone pasts j i (found_edit n base tables due halted) → tables < due → OtherCompacts pasts j i
   pub edit : (j i : ℕ) (past : List Event) → IsParticipantAt pasts j i past → (t.last ≡ last_installed first past) ⊎ OtherInstalls pasts j i
   pub tables : (j i : ℕ) (past : List Event) → IsParticipantAt pasts j i past → (tables_due first past ≤ t.last.tables) ⊎ OtherCompacts pasts j i

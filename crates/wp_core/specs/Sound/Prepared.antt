@@ -1,4 +1,4 @@
--- What is so of the cache, the prepared tables, and the old commit map.
+-- What is so of the cache, the prepared sets, and the old commit map.
 use Rattle.std.specs.Prelude.{◌≡◌, ℕ, ◌≤◌, ◌<◌, ◌⊎◌, true, false, List, length, slice_index, Option, Some, None}
 use Rattle.std.specs.Ordering.{nat_cmp}
 use Rattle.std.specs.FinSet as set
@@ -58,7 +58,7 @@ pub record AreUndecided (history pending : List Entry) (t : PreparedSets) (max :
   pub delayed_passed : (p : ℕ) → set.contains t.delayed p ≡ true → p ≤ max
   pub known : (p : ℕ) → is_prepared t p ≡ true → is_prepare (entry_at (extended history pending) p) ≡ true
 
--- what the prepared tables have of decided versions; a delayed commit may be the pending entry's
+-- what the prepared sets have of decided versions; a delayed commit may be the pending entry's
 pub record AreDelayed (history pending : List Entry) (t : PreparedSets) (cache : List ℕ) : Type 0 where
   pub found : (p c : ℕ) → is_prepared t p ≡ true → decision_of history p ≡ Some c → (cached cache p ≡ Some c) ⊎ (finite.get t.delayed_commits p ≡ Some c)
   pub commits : (p c : ℕ) → finite.get t.delayed_commits p ≡ Some c → decision_of (extended history pending) p ≡ Some c

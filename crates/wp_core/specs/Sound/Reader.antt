@@ -20,7 +20,7 @@ use Rattle.wp_core.specs.Sound.Snapshots.{has_versions_at}
 abbrev pub reader_of : Actor → List Registration × Option Observed
 reader_of a = (a.participant.registered, a.reading)
 
--- the prepared tables were found without it, where the first bound was at least its number
+-- the prepared sets were found without it, where the first bound was at least its number
 pub record NotInPrepared (p : ℕ) (first_max delayed_flag : Option ℕ) (in_prepared : Option InPrepared) : Type 0 where
   pub bound : ℕ
   pub loaded : first_max ≡ Some bound
@@ -51,7 +51,7 @@ pub record IsPassedBy (history : List Entry) (max : ℕ) (cache : List ℕ) (p :
 -- after a first word that is another's, if the version is committed at the snapshot, the bound has come to its number, and its word is
 -- another's;
 -- the bound loaded first is at most the bound;
--- after the prepared tables were found without the version, where the first bound was at least its number, it is decided, and the word
+-- after the prepared sets were found without the version, where the first bound was at least its number, it is decided, and the word
 -- or the old commit map answers for it;
 -- after a second word that is another's it is passed, and its word is another's;
 -- the bound loaded second is at least its decision.

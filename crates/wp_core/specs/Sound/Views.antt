@@ -1,4 +1,4 @@
--- What an actor noted, while others hold the tables, is so.
+-- What an actor noted, while others hold the states, is so.
 use Rattle.std.specs.Prelude.{◌≡◌, ◌≢◌, ◌⊎◌, ℕ, suc, ◌≤◌, ◌<◌, true, false, List, length, Option, Some, None}
 use Rattle.std.specs.FinSet as set
 use Rattle.std.specs.FinMap as finite
@@ -7,6 +7,7 @@ use Rattle.wp_model.specs.History.{named, batch_at, is_changed, holder_of}
 use Rattle.wp_model.specs.Legal.{prior}
 use Rattle.wp_model.specs.Decision.{decision_of, version_in}
 use Rattle.wp_model.specs.Versions.{version_at}
+use Rattle.wp_model.specs.Changed.{IsUnchanged}
 use Rattle.wp_model.specs.Covered.{is_among}
 use Rattle.wp_model.specs.Snapshots.{IsLive, Snapshots}
 use Rattle.wp_model.specs.declared.holder.Holder.TheVariants.{Txn, Client}
@@ -15,9 +16,9 @@ use Rattle.wp_core.specs.Turns.{Turn, write_turn, prepared_turn, snapshots_turn,
 use Rattle.wp_judge.specs.Words.{CommitPair}
 use Rattle.wp_core.specs.Cache.{cached, pair_at}
 use Rattle.wp_model.specs.PreparedSets.{PreparedSets, is_prepared}
-use Rattle.wp_model.specs.LockState.{LockState}
+use Rattle.wp_model.specs.LockState.{LockState, Keys, is_among_keys}
 use Rattle.wp_core.specs.States.{WriteState, StoreState, Installed}
-use Rattle.wp_core.specs.Views.{Fact, passed, in_old_commits, apart, words_stay, has_left, versions_in_memory, versions_nowhere, number_in_heap, number_not_in_heap, pair_delayed, pair_not_delayed, none_waits, undecided_at, prior_values, unprepared, direct_free, tables_stay, live_listed, nothing_flushed, frozen_stay, delayed_flag_stays, old_flag_stays}
+use Rattle.wp_core.specs.Views.{Fact, passed, in_old_commits, apart, words_stay, has_left, versions_in_memory, versions_nowhere, number_in_heap, number_not_in_heap, pair_delayed, pair_not_delayed, none_waits, undecided_at, prior_values, unprepared, direct_free, unchanged, locks_stay, tables_stay, live_listed, nothing_flushed, frozen_stay, delayed_flag_stays, old_flag_stays}
 use Rattle.wp_core.specs.Entries.{next_of, pending_pair}
 use Rattle.wp_core.specs.World.{Transaction, Participant, Actor}
 use Rattle.wp_core.specs.Sound.Prepared.{IsInOldCommits}
@@ -32,6 +33,8 @@ guarded_by (undecided_at name p) = None
 guarded_by (prior_values name p batch) = None
 guarded_by (unprepared name) = None
 guarded_by (direct_free key) = None
+guarded_by (unchanged name key n) = None
+guarded_by (locks_stay name p keys) = None
 guarded_by (live_listed floor listed) = None
 guarded_by (tables_stay versions floor) = Some tables_turn
 guarded_by nothing_flushed = Some tables_turn
@@ -53,7 +56,7 @@ pub record IsClearing (published : ℕ) (cache : List ℕ) (place : ℕ) (pair :
   pub published_by : pair.decision ≤ published
   pub so : why
 
--- no prepared table has it, or the delayed commits do
+-- no prepared set has it, or the delayed commits do
 abbrev pub IsApart : PreparedSets → CommitPair → Type 0
 IsApart t pair = (is_prepared t pair.number ≡ false) ⊎ (finite.get t.delayed_commits pair.number ≡ Some pair.decision)
 
@@ -84,6 +87,15 @@ IsNowhere d t = (key : List ℕ) → version_at t.memory key (suc (length d.hist
 abbrev pub Owns : Participant → List ℕ → Type 0
 Owns a name = (t : Transaction) × (finite.get a.transactions name ≡ Some t)
 
+-- ... and has the key locked
+abbrev pub OwnsKey : Participant → List ℕ → List ℕ → Type 0
+OwnsKey a name key = (t : Transaction) × (finite.get a.transactions name ≡ Some t) × (set.contains t.locked key ≡ true)
+
+-- just these keys are held for the transaction
+pub record AreKeysOf (held : Keys) (name : List ℕ) (keys : List (List ℕ)) : Type 0 where
+  pub among : (key : List ℕ) → finite.get held key ≡ Some (Txn name) → is_among_keys keys key ≡ true
+  pub are_held : (key : List ℕ) → is_among_keys keys key ≡ true → finite.get held key ≡ Some (Txn name)
+
 abbrev pub IsSo : ℕ → ℕ → ℕ → List ℕ → WriteState → PreparedSets → Snapshots → StoreState → LockState → Installed → Participant → Fact → Type 0
 IsSo delayed_flag old_flag max cache d t m s l e a (passed place pair) = IsClearing (length d.history) cache place pair (pair.decision ≤ max)
 IsSo delayed_flag old_flag max cache d t m s l e a (in_old_commits place pair) = IsClearing (length d.history) cache place pair (IsInOldCommits m pair.number pair.decision)
@@ -101,6 +113,8 @@ IsSo delayed_flag old_flag max cache d t m s l e a (undecided_at name p) = Owns 
 IsSo delayed_flag old_flag max cache d t m s l e a (prior_values name p batch) = Owns a name × (named d.history name ≡ Some p) × (prior d.history (batch_at d.history p) ≡ batch)
 IsSo delayed_flag old_flag max cache d t m s l e a (unprepared name) = Owns a name × (named d.history name ≡ None) × ((x : Transaction) (key : List ℕ) → finite.get a.transactions name ≡ Some x → set.contains x.locked key ≡ true → holder_of d.history key ≡ None)
 IsSo delayed_flag old_flag max cache d t m s l e a (direct_free key) = (a.direct ≡ Some key) × (finite.get l.keys key ≡ Some (Client a.client)) × (holder_of d.history key ≡ None)
+IsSo delayed_flag old_flag max cache d t m s l e a (unchanged name key n) = OwnsKey a name key × (n ≤ length d.history) × IsUnchanged d.history key n
+IsSo delayed_flag old_flag max cache d t m s l e a (locks_stay name p keys) = (p ≤ length d.history) × (named d.history name ≡ Some p → AreKeysOf l.keys name keys)
 IsSo delayed_flag old_flag max cache d t m s l e a (tables_stay versions floor) = (s.tables ≡ versions) × (s.floor ≡ floor)
 IsSo delayed_flag old_flag max cache d t m s l e a (live_listed floor listed) = (floor ≤ length d.history) × ((n : ℕ) → IsLive m n → (is_among listed n ≡ true) ⊎ (floor ≤ n))
 IsSo delayed_flag old_flag max cache d t m s l e a nothing_flushed = NoneFlushed s.memory e.last.flushed

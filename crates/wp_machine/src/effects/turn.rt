@@ -15,7 +15,7 @@ use crate::world::World;
 use std::alloc::AllocError;
 use wp_core::Turn;
 
-/// The actor has the table as the world has it now, if it holds that turn.
+/// The actor has the state as the world has it now, if it holds that turn.
 pub(super) fn hold(world: &World, actor: &mut Actor, turn: Turn)
     ensures { actor.new ≡ record actor.old { held = held_with actor.old.held (content_of world.now (turn_of turn)) } }
 {

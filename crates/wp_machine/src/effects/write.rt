@@ -33,6 +33,11 @@ pub(crate) fn write(world: &mut World, actor: &mut Actor, kind: WriteStep) -> Re
             let published = world.writes.history.len() as Seq;
             return actor.remember(Event::of(Found::Stopped(published)));
         }
+        WriteStep::FindBase => {
+            let published = world.writes.history.len() as Seq;
+            let base = world.writes.segment.base;
+            return actor.remember(Event::of(Found::Base(published, base)));
+        }
         WriteStep::DropPending => world.writes.pending.clear(),
         WriteStep::WriteSegment(place) => world.writes.write_segment(place),
         WriteStep::UseSegment => world.writes.use_segment(),

@@ -14,6 +14,7 @@ use crate::needs::decided::is_decided;
 use crate::needs::listed::{live_listed, stay_up_to};
 use crate::needs::pending::{is_in_heap, is_in_memory, is_nowhere};
 use crate::needs::transactions::{has_prior, is_direct_free, is_undecided_at, is_unprepared};
+use crate::needs::unchanged::{has_unchanged, locks_stay};
 use crate::needs::versions::{are_equal, none_flushed};
 use crate::needs::waiting::none_waits;
 use std::alloc::AllocError;
@@ -195,6 +196,8 @@ fn is_so(world: &World, participant: &Participant, fact: &Fact) -> Result<bool, 
         ),
         Noted::Unprepared(name) => is_unprepared(history, participant, name, alloc),
         Noted::DirectFree(key) => is_direct_free(locks, history, participant, key, alloc),
+        Noted::Unchanged(name, key, n) => has_unchanged(history, participant, name, key, *n, alloc),
+        Noted::LocksStay(name, p, keys) => locks_stay(locks, history, name, *p, keys, alloc),
         _ => is_so_of_versions(world, fact),
     }
 }

@@ -46,6 +46,13 @@ fn is_client_of(locks: &LockState, participant: &Participant, name: &Name) -> bo
     }
 }
 
+/// Whether the transaction locked the key.
+pub(crate) fn has_locked(transaction: &Transaction, key: &Key) -> bool
+    ensures { result ≡ set.contains transaction.now.locked key.now }
+{
+    transaction.locked.contains(key)
+}
+
 /// Whether the transaction holds the key.
 pub(crate) fn is_held_for(locks: &LockState, key: &Key, name: &Name) -> bool
     ensures { (result ≡ true) ↔ (finite.get locks.now.keys key.now ≡ Some (Txn name.now)) }

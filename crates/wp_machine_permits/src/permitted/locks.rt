@@ -9,9 +9,9 @@ ghost use Rattle.wp_machine_permits.specs.Each.{Each};
 ghost use Rattle.wp_machine_permits.specs.Offered.{IsOffered};
 ghost use Rattle.wp_machine_permits.specs.Permits.{MayBeLeft};
 
-use crate::needs::{has_direct, may_find};
+use crate::needs::{has_direct, has_locked, may_find};
 use crate::permitted::history::history_of;
-use crate::permitted::publishing::{has_locked, has_transaction};
+use crate::permitted::publishing::has_transaction;
 use std::alloc::AllocError;
 use wp_history::History;
 use wp_machine::{Actor, LocksStep, Transaction, Turn, World};
@@ -119,6 +119,25 @@ fn may_free_key(
     Ok(unprepared)
 }
 
+fn may_lock_key(
+    world: &World,
+    by: usize,
+    actor: &Actor,
+    name: &Name,
+    key: &Key,
+) -> Result<bool, AllocError>
+    ensures { IfOk result (λ yes. yes ≡ true → IsOffered world.now by actor.now (option_map (λ t. step.lock_key name.now t key.now) (finite.get actor.now.participant.transactions name.now))) }
+{
+    if actor.participant.transaction(name).is_none() {
+        return Ok(false);
+    }
+    if !world.holders.holds(Turn::Locks, by) || world.locks.holder(key).is_some() {
+        return Ok(false);
+    }
+    let unprepared = is_unprepared(world, name)?;
+    Ok(unprepared)
+}
+
 pub(super) fn locks(
     world: &World,
     by: usize,
@@ -131,6 +150,7 @@ pub(super) fn locks(
         LocksStep::TakeName(name, p) => may_take_name(world, by, name, *p),
         LocksStep::LeaveName(name) => may_leave_name(world, by, actor, name),
         LocksStep::FreeTransaction(name) => may_free_transaction(world, by, actor, name),
+        LocksStep::LockKey(name, key) => may_lock_key(world, by, actor, name, key),
         LocksStep::FreeKey(name, key) => may_free_key(world, by, actor, name, key),
         LocksStep::FindHolder(key, holder, account) => {
             Ok(may_find(world, by, actor, key, holder, *account))
@@ -148,9 +168,6 @@ fn claims(world: &World, by: usize, actor: &Actor, kind: &LocksStep) -> bool
     }
     match kind {
         LocksStep::ClaimName(name) => world.locks.name(name).is_none() && actor.live,
-        LocksStep::LockKey(name, key) => {
-            actor.participant.transaction(name).is_some() && world.locks.holder(key).is_none()
-        }
         LocksStep::LockDirect(key) => {
             actor.participant.direct.is_none() && world.locks.holder(key).is_none()
         }
@@ -160,6 +177,7 @@ fn claims(world: &World, by: usize, actor: &Actor, kind: &LocksStep) -> bool
         LocksStep::TakeName(_, _)
         | LocksStep::LeaveName(_)
         | LocksStep::FreeTransaction(_)
+        | LocksStep::LockKey(_, _)
         | LocksStep::FreeKey(_, _)
         | LocksStep::FindHolder(_, _, _) => false,
     }

@@ -8,14 +8,14 @@ ghost use Rattle.wp_model.specs.Legal.{IsLegalNext};
 ghost use Rattle.wp_model.specs.declared.entry.Entry.{Entry};
 ghost use Rattle.wp_judge.specs.Words.{CommitPair, commit_pair};
 ghost use Rattle.wp_core.specs.Sound.Prepared.{IsWide, IsEntered};
-ghost use Rattle.wp_core.specs.Conditions.{IsHeldFor, IsPrepare};
-ghost use Rattle.wp_core.specs.Entries.{changes_under, transaction_of, pair_by};
+ghost use Rattle.wp_core.specs.Conditions.{IsPrepare};
+ghost use Rattle.wp_core.specs.Entries.{changes_under, written, transaction_of, pair_by};
 ghost use Rattle.wp_machine.specs.Machine.{published_step};
 ghost use Rattle.wp_machine_permits.specs.Offered.{IsOffered};
 ghost use Rattle.wp_machine_permits.specs.Each.{Each};
 ghost use Rattle.wp_machine_permits.specs.Permits.{IsEntitled, IsHeldKey, IsLocked, IsMade, IsOwned, IsOwner};
 
-use crate::needs::{self, cached, has_direct, has_versions_of};
+use crate::needs::{self, cached, has_direct, has_locked, has_versions_of};
 use crate::permitted::evicting::fits_no_word;
 use crate::permitted::history::{history_of, may_follow};
 use std::alloc::AllocError;
@@ -62,22 +62,22 @@ pub(super) fn has_transaction(actor: &Actor, name: &Name) -> bool
     actor.participant.transaction(name).is_some()
 }
 
-/// The key is held for the actor.
-fn is_held_for(world: &World, actor: &Actor, key: &Key) -> bool
-    ensures { result ≡ true → IsHeldKey world.now actor.now key.now }
+/// The key is held for the actor, and for no prepared transaction.
+fn is_held_for(world: &World, history: &History, actor: &Actor, key: &Key) -> bool
+    ensures { result ≡ true → IsHeldKey history.now.entries world.now actor.now key.now }
 {
     match world.locks.holder(key) {
-        Some(Holder::Txn(name)) => has_transaction(actor, name),
+        Some(Holder::Txn(name)) => has_transaction(actor, name) && history.named(name).is_none(),
         Some(Holder::Client(client)) => is_direct(actor, key, client),
         None => false,
     }
 }
 
-fn are_held_for(world: &World, actor: &Actor, changes: &[Change]) -> bool
-    ensures { result ≡ true → Each (λ change. IsHeldKey world.now actor.now (key_of change)) changes.now }
+fn are_held_for(world: &World, history: &History, actor: &Actor, changes: &[Change]) -> bool
+    ensures { result ≡ true → Each (λ change. IsHeldKey history.now.entries world.now actor.now (key_of change)) changes.now }
 {
     for change in changes {
-        if !is_held_for(world, actor, change.key()) {
+        if !is_held_for(world, history, actor, change.key()) {
             return false;
         }
     }
@@ -85,20 +85,23 @@ fn are_held_for(world: &World, actor: &Actor, changes: &[Change]) -> bool
 }
 
 /// Each key that the batch changes is held for the actor.
-fn has_keys(world: &World, actor: &Actor, batch: &Batch) -> bool
-    ensures { result ≡ true → (key : List ℕ) → is_changed batch.now key ≡ true → IsHeldFor world.now actor.now key }
+fn has_keys(world: &World, history: &History, actor: &Actor, batch: &Batch) -> bool
+    ensures { result ≡ true → (key : List ℕ) → is_changed batch.now key ≡ true → IsHeldKey history.now.entries world.now actor.now key }
 {
-    are_held_for(world, actor, batch.changes())
+    are_held_for(world, history, actor, batch.changes())
+}
+
+/// Each key of a Write is held for the actor.
+fn has_written(world: &World, history: &History, actor: &Actor, entry: &Entry) -> bool
+    ensures { result ≡ true → (key : List ℕ) → is_changed (written entry.now) key ≡ true → IsHeldKey history.now.entries world.now actor.now key }
+{
+    match entry {
+        Entry::Write(batch) => has_keys(world, history, actor, batch),
+        Entry::Prepare(_, _) | Entry::Commit(_) | Entry::Undo(_, _) | Entry::Close(_) => true,
+    }
 }
 
 // ---- the transaction
-
-/// The transaction locked the key.
-pub(super) fn has_locked(transaction: &Transaction, key: &Key) -> bool
-    ensures { result ≡ set.contains transaction.now.locked key.now }
-{
-    transaction.locked.contains(key)
-}
 
 fn are_locked(world: &World, transaction: &Transaction, name: &Name, changes: &[Change]) -> bool
     ensures { result ≡ true → Each (λ change. IsLocked world.now transaction.now name.now (key_of change)) changes.now }
@@ -133,7 +136,7 @@ fn is_of_own(world: &World, actor: &Actor, of: Option<&Name>, batch: &Batch) -> 
     }
 }
 
-/// The entry may come next, its keys are held for the actor, and its transaction is the actor's.
+/// The entry may come next, the keys of a Write are held for the actor, and its transaction is the actor's.
 fn is_entitled(world: &World, actor: &Actor, entry: &Entry) -> Result<bool, AllocError>
     ensures { IfOk result (λ entitled. entitled ≡ true → IsEntitled world.now actor.now entry.now) }
 {
@@ -143,10 +146,10 @@ fn is_entitled(world: &World, actor: &Actor, entry: &Entry) -> Result<bool, Allo
     if !may_follow(&history, entry) {
         return Ok(false);
     }
-    let batch = changes_under(&history, entry);
-    if !has_keys(world, actor, batch) {
+    if !has_written(world, &history, actor, entry) {
         return Ok(false);
     }
+    let batch = changes_under(&history, entry);
     Ok(is_of_own(world, actor, transaction_of(&history, entry), batch))
 }
 

@@ -14,7 +14,7 @@ use wp_judge::{Asked, Load, ask};
 use wp_machine::{Actor, PreparedSets, ReaderStep, Registration, Turn, World, entry_at};
 use wp_model::{Entry, Seq};
 
-/// A look into a table needs its turn.
+/// A look into a state needs its turn.
 fn may_look(world: &World, by: usize, which: Load) -> bool
     ensures { result ≡ true → MayLook world.now by which }
 {

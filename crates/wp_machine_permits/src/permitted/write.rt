@@ -1,6 +1,6 @@
 //! Whether a step with the write turn may be made.
-ghost use Rattle.std.specs.Prelude.{◌≡◌, ◌≢◌, ◌↔◌, ◌++◌, true, Some, IfOk};
-ghost use Rattle.wp_core.specs.World.{Actor};
+ghost use Rattle.std.specs.Prelude.{◌≡◌, ◌≢◌, ◌<◌, ◌↔◌, ◌++◌, true, Some, IfOk};
+ghost use Rattle.wp_core.specs.World.{Actor, published};
 ghost use Rattle.wp_core.specs.Cache.{cached};
 ghost use Rattle.wp_core.specs.Conditions.{MayLog, MayClose, MayDrop, MayWriteSegment, MayUseSegment, MayStop};
 ghost use Rattle.wp_model.specs.Record.{IsOneRecord};
@@ -15,7 +15,7 @@ use crate::needs::{cached, is_next_segment, is_undelayed, none_at};
 use crate::permitted::history::{add_all, history_of};
 use std::alloc::AllocError;
 use wp_machine::{Turn, World, WriteStep};
-use wp_model::Entry;
+use wp_model::{Entry, Seq};
 
 fn may_log(world: &World, by: usize) -> bool
     ensures { result ≡ true → MayLog world.now by }
@@ -33,6 +33,13 @@ fn names_next(world: &World) -> bool
     is_next_segment(world, world.installed.last.segment)
 }
 
+/// More is published than the log's base.
+fn has_something_to_renew(world: &World) -> bool
+    ensures { result ≡ true → world.now.writes.segment.base < published world.now }
+{
+    world.writes.segment.base < world.writes.history.len() as Seq
+}
+
 fn may_close(world: &World, by: usize) -> bool
     ensures { result ≡ true → MayClose world.now by }
 {
@@ -40,7 +47,7 @@ fn may_close(world: &World, by: usize) -> bool
         return false;
     }
     if world.writes.pending.is_empty() {
-        return !names_next(world);
+        return !names_next(world) && has_something_to_renew(world);
     }
     !world.writes.logged
 }
@@ -142,6 +149,7 @@ pub(super) fn write(world: &World, by: usize, kind: &WriteStep) -> Result<bool, 
         WriteStep::FindLogClosed => {
             Ok(world.holders.holds(Turn::Write, by) && world.writes.closed)
         }
+        WriteStep::FindBase => Ok(world.holders.holds(Turn::Write, by) && world.writes.none_next()),
         WriteStep::MakePending(entries) => may_make_pending(world, by, entries),
         WriteStep::DropPending => may_drop(world, by),
         WriteStep::WriteSegment(place) => Ok(may_write_segment(world, by, *place)),
