@@ -64,17 +64,21 @@ module _ {D : Type 0} (z : SharedState D) (old new : SeatState) (direct : old.kn
   }
 
   -- ... which has the prepared transaction still
-  kept : (after : Participant) (goes : Continues z old new after) → after.transactions ≡ old.knows.participant.transactions → after.direct ≡ old.knows.participant.direct
+  kept_with : (Stays : Fact → Type 0) → ((name : List ℕ) (n : ℕ) → Stays (undecided_at name n)) → (after : Participant) (goes : ContinuesWith Stays z old new after) → after.transactions ≡ old.knows.participant.transactions → after.direct ≡ old.knows.participant.direct
       → (p : Option PreparedState) → IfSome p (HasPrepared old) → IsWriter z new None p
-  kept after goes same as_before p has = wrote IsLoose after goes None p (as_before ∙ direct) tt (if_stays _ _ p (λ t h. record {
+  kept_with Stays stays after goes same as_before p has = wrote Stays after goes None p (as_before ∙ direct) tt (if_stays _ _ p (λ t h. record {
     transaction = h.transaction;
     has = ap (λ (x : Participant). finite.get x.transactions t.name) goes.participant ∙ (ap (λ ts. finite.get ts t.name) same ∙ h.has);
     batch_is = h.batch_is;
     keys = h.keys;
-    noted = goes.notes (undecided_at t.name t.number) refl h.noted;
+    noted = goes.notes (undecided_at t.name t.number) (stays t.name t.number) h.noted;
     seen = let more = shorter new.knows.participant.seen old.knows.participant.seen goes.seen in let low = h.seen in omega (arith, more, low);
     stands = let s = goes.seen in ap (λ (l : List Entry). entry_at l t.number) s.1 ∙ (entry_at_old old.knows.participant.seen s.0 t.number h.seen ∙ h.stands);
   }) has)
+
+  kept : (after : Participant) (goes : Continues z old new after) → after.transactions ≡ old.knows.participant.transactions → after.direct ≡ old.knows.participant.direct
+      → (p : Option PreparedState) → IfSome p (HasPrepared old) → IsWriter z new None p
+  kept after goes same as_before p has = kept_with IsLoose (λ name n. refl) after goes same as_before p has
 
   -- why a call put no entries there
   refused_as : (needed : ℕ) (Asks : List Entry → Type 0) (found after : Participant) (why : TxnError) → after.transactions ≡ old.knows.participant.transactions → after.direct ≡ old.knows.participant.direct
@@ -104,7 +108,7 @@ module _ {D : Type 0} (z : SharedState D) (old new : SeatState) (direct : old.kn
   asks_write change entries = entries ≡ Write (change ∷ []) ∷ []
 
   pub has_written : (change : Change) (n : ℕ) (p : Option PreparedState) → IfSome p (HasPrepared old) → WritesDirect z old change (Ok n) new → IsWriter z new None p
-  has_written change n p has c = kept _ c.1.1.goes_on refl refl p has
+  has_written change n p has c = kept_with _ (λ name m. (refl, (refl, tt))) _ c.1.1.goes_on refl refl p has
 
   pub written_version : (change : Change) (n : ℕ) → WritesDirect z old change (Ok n) new → has_versions_at new.knows.participant.seen n ≡ true
   written_version change n c = last_version new.knows.participant.seen c.1.0 (Write (change ∷ [])) n c.0 c.1.1.seen refl

@@ -59,7 +59,7 @@ fn told<R: Wait>(
         Deciding::Free => match wp_read::decide_free(store, seat, p, snapshot) {
             Free::Decided(true) => "visible",
             Free::Decided(false) => "hidden",
-            Free::Prepared(_) => "prepared tables",
+            Free::Prepared(_) => "prepared sets",
             Free::Snapshots(_) => "old commits",
         },
         Deciding::Whole => match wp_read::visible(store, rt, seat, p, snapshot) {

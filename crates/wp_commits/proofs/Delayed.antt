@@ -1,4 +1,4 @@
--- The prepared tables while the bound rises, and while a pair becomes a delayed commit.
+-- The prepared sets while the bound rises, and while a pair becomes a delayed commit.
 use Rattle.std.proofs.Common.{◌≡◌, ◌≢◌, inl, inr, ◌⊎◌, ℕ, ◌<◌, nat_le, nat_lt, Bool, true, false, true≢false, not, cond, ◌||◌, ◌&&◌, List, [], ◌∷◌, length, refl, sym, subst, ap, ◌∙◌, Some, None, arith}
 use Rattle.std.proofs.lemmas.Bool.Decides.{nat_tests}
 use native.Mathlib.Decide.{ℕ_discrete}
@@ -53,7 +53,7 @@ in_delayed t m p = set.contains-union nat_cmp_total t.delayed (set.retain t.heap
 above_is : (m p : ℕ) → nat_lt m p ≡ not (nat_le p m)
 above_is m p = grind (arith, nat_tests)
 
--- tables that advanced are those of the machine
+-- sets that advanced are those of the machine
 pub advanced : (old new : PreparedSets) (m : ℕ) → ((p : ℕ) → set.contains new.heap p ≡ (set.contains old.heap p && nat_lt m p))
     → ((p : ℕ) → set.contains new.delayed p ≡ (set.contains old.delayed p || (set.contains old.heap p && nat_le p m))) → new.delayed_commits ≡ old.delayed_commits → new ≡ with_moved old m
 advanced old new m heap delayed commits =
@@ -170,7 +170,7 @@ apart_now t p c = at (is_prepared t p) refl
     at true e = inr (ap (λ (x : Bool). finite.get (cond x (finite.insert t.delayed_commits p c) t.delayed_commits) p) e ∙ get_inserted t.delayed_commits p c)
 
 commit_ends : (pair : CommitPair) → EndsNothing (add_delayed_commit pair)
-commit_ends pair = record { guard = λ turn. refl; place = λ words place. refl; words = refl; delayed_flag = refl; old_flag = refl; pending = refl; adds = refl; takes = refl; prepared = refl; unprepared = refl; delays = refl; transaction = λ history name. refl; direct = refl; moves = refl; replaces = refl; installing = refl }
+commit_ends pair = record { guard = λ turn. refl; place = λ words place. refl; words = refl; delayed_flag = refl; old_flag = refl; pending = refl; adds = refl; takes = refl; prepared = refl; unprepared = refl; delays = refl; transaction = λ history name. refl; changes = λ history key. refl; direct = refl; moves = refl; replaces = refl; installing = refl }
 
 module _ (place : Place) (s t : SeatState) (d : WriteState) (old tables : PreparedSets) (p c : ℕ) (held : s.knows.held ≡ prepared old ∷ writes d ∷ []) (is : tables ≡ with_commit old p c) where
   abbrev steps_if : Bool → List Step

@@ -103,7 +103,7 @@ test_where p c q false e = inr (refl, dite_below)
         by_from true x false y = let from : p ≤ q = grind (arith, nat_tests) in let past : c ≤ q = grind (arith, nat_tests) in inr (omega (arith, from, past))
         by_from true x true y = let from : p ≤ q = grind (arith, nat_tests) in let below : q < c = grind (arith, nat_tests) in absurd (not_both from below)
 
--- the range of the numbers that overlap the pair is that of the table
+-- the range of the numbers that overlap the pair is that of the state
 kept_is : (m new : Snapshots) (p c : ℕ) → ChangesWhere (overlaps p c) (after_keep p) m new → kept_over m m p (c - p) p ≡ new
 kept_is m new p c changes = finite.same_map nat_cmp_total finite.nat_cmp-IsAntisymmetric (kept_over m m p (c - p) p) new (λ q. at q (overlaps p c q) refl)
   where
@@ -113,7 +113,7 @@ kept_is m new p c changes = finite.same_map nat_cmp_total finite.nat_cmp-IsAntis
         (λ (o : (b ≡ false) × ((q < p) ⊎ (p + (c - p) ≤ q))). kept_outside m m p (c - p) p q o.1 ∙ sym (changes q ∙ ap (λ (x : Bool). cond x (after_keep p (finite.get m q)) (finite.get m q)) (e ∙ o.0)))
         (test_where p c q b e)
 
--- ---- what the table tells
+-- ---- what the state tells
 
 module _ (m new : Snapshots) (p c : ℕ) (changes : ChangesWhere (overlaps p c) (after_keep p) m new) where
   at_overlap : (s : ℕ) → p ≤ s → s < c → finite.get new s ≡ after_keep p (finite.get m s)
@@ -151,7 +151,7 @@ module _ (m new : Snapshots) (p c : ℕ) (changes : ChangesWhere (overlaps p c) 
 -- ---- the steps
 
 keep_ends : (s p : ℕ) → EndsNothing (add_old_commit s p)
-keep_ends s p = record { guard = λ turn. refl; place = λ words place. refl; words = refl; delayed_flag = refl; old_flag = refl; pending = refl; adds = refl; takes = refl; prepared = refl; unprepared = refl; delays = refl; transaction = λ history name. refl; direct = refl; moves = refl; replaces = refl; installing = refl }
+keep_ends s p = record { guard = λ turn. refl; place = λ words place. refl; words = refl; delayed_flag = refl; old_flag = refl; pending = refl; adds = refl; takes = refl; prepared = refl; unprepared = refl; delays = refl; transaction = λ history name. refl; changes = λ history key. refl; direct = refl; moves = refl; replaces = refl; installing = refl }
 
 pub keeping_keeps : (m : Snapshots) (p more s : ℕ) → KeepClient (keeping_from m p more s)
 keeping_keeps m p zero s = tt

@@ -135,7 +135,7 @@ passed_is (Some r) a history commits found bound words noted is decided k =
     let low = k.passed in let d = decided r.0 r.1 k.there k.passed in
     record { bound = bound; words = words; noted = noted; there = k.there; passed = omega (arith, low, is); decided = d.0; ordered = d.1 }
 
--- the tables that the seat has, where the bound has come to no delayed commit
+-- the sets that the seat has, where the bound has come to no delayed commit
 pub knows_none_waits : (a : Actor) (d : WriteState) (t : PreparedSets) → IsIn (writes d) a.held → IsIn (prepared t) a.held → NoneReached a t.delayed_commits → KnowsFact a none_waits
 knows_none_waits a d t has there k = record { state = d; held = has; so_is = record { state = t; held = there; so_is = (k.bound, k.words, k.noted, k.above) } }
 

@@ -1,4 +1,4 @@
--- A decided number leaves the prepared tables.
+-- A decided number leaves the prepared sets.
 use Rattle.std.proofs.Common.{◌≡◌, inl, ℕ, ◌||◌, true, false, List, [], ◌∷◌, length, refl, sym, subst, ap, ◌∙◌, Some, None, append-nil}
 use Rattle.wp_model.specs.Decision.{decision_of}
 use Rattle.wp_model.specs.PreparedSets.{PreparedSets}
@@ -26,14 +26,14 @@ use Rattle.wp_shared.specs.Notes.{is_flag, noting, GoesOn}
 use Rattle.wp_judge.specs.Words.{commit_pair, fits}
 
 pub take_ends : (p : ℕ) → EndsNothing (take_out p)
-take_ends p = record { guard = λ turn. refl; place = λ words place. refl; words = refl; delayed_flag = refl; old_flag = refl; pending = refl; adds = refl; takes = refl; prepared = refl; unprepared = refl; delays = refl; transaction = λ history name. refl; direct = refl; moves = refl; replaces = refl; installing = refl }
+take_ends p = record { guard = λ turn. refl; place = λ words place. refl; words = refl; delayed_flag = refl; old_flag = refl; pending = refl; adds = refl; takes = refl; prepared = refl; unprepared = refl; delays = refl; transaction = λ history name. refl; changes = λ history key. refl; direct = refl; moves = refl; replaces = refl; installing = refl }
 
 pub may_take_out : (at : Place) (a : Actor) (t : PreparedSets) (p : ℕ) → a.live ≡ true → a.held ≡ prepared t ∷ [] → (c : ℕ) × (decision_of a.participant.seen p ≡ Some c) × (fits at.cells (commit_pair p c) ≡ true) → MayMake at a (λ w. take_out p ∷ note (has_left p) ∷ [])
 may_take_out at a t p live held decided w k =
     let n = needed at a w k (take_out p) (record { state = t; held = subst (IsIn (prepared t)) (sym held) (inl refl); so_is = (decided.0, decided.1, inl decided.2) }) in
     ((tt, (tt, tt)), (n, ((live, (λ turn e. absurd (none_some None turn refl e)), ((n.1.0, n.1.1), (λ i. in_removed w.prepared.heap p i || in_removed w.prepared.delayed p i))), tt)))
 
--- the number left the tables, which is noted
+-- the number left the sets, which is noted
 pub took_out : (at : Place) (so : World → Type 0) (s t : SeatState) (old tables : PreparedSets) (p : ℕ) → s.knows.held ≡ prepared old ∷ [] → tables ≡ without_prepared old p → (t.table ≡ s.table) × (t.by ≡ s.by) × (t.turns ≡ s.turns)
     → Moved at (λ w. take_out p ∷ note (has_left p) ∷ []) so s.knows t.knows → t ≡ noting (has_left p) (record s { knows = record s.knows { held = prepared tables ∷ [] } })
 took_out at so s t old tables p held is same m =

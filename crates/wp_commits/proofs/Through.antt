@@ -8,7 +8,7 @@ use Rattle.wp_shared.specs.Notes.{is_under, GoesOn}
 use Rattle.wp_shared.specs.Seats.{SharedState, SeatState}
 use Rattle.wp_shared.specs.Turns.{HoldsTurn, Taken}
 
--- The turn is taken with the first table, and under it the table becomes the second. What it was before is held beneath.
+-- The turn is taken with the first state, and under it the state becomes the second. What it was before is held beneath.
 module _ {D : Type 0} (z : SharedState D) (s t u : SeatState) (before now : Content) (beneath : List Content) (held : s.knows.held ≡ beneath) (first : Taken z s t before) where
   pub held_taken : t.knows.held ≡ before ∷ beneath
   held_taken = first.holds.held ∙ ap (λ (h : List Content). before ∷ h) held

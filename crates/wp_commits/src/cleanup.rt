@@ -1,4 +1,4 @@
-//! Late clean-up: a decided number leaves the prepared tables.
+//! Late clean-up: a decided number leaves the prepared sets.
 ghost use Rattle.std.specs.Prelude.{◌≡◌, ℕ, true, Some};
 ghost use Rattle.wp_judge.specs.Words.{commit_pair, fits};
 ghost use Rattle.wp_model.specs.Decision.{decision_of};

@@ -209,7 +209,7 @@ fn clear_there<D: Disk + Drop, R: Wait>(
 }
 
 /// Makes the word at this place ready to be replaced: it is empty, or the bound has come to the decision of its pair, the old
-/// commit map has that under each live number that it overlaps, and no prepared table needs it. Where memory is wanting the word
+/// commit map has that under each live number that it overlaps, and no prepared set needs it. Where memory is wanting the word
 /// stays as it is.
 fn clear_place<D: Disk + Drop, R: Wait>(
     store: &Shared<D>,
@@ -260,7 +260,7 @@ fn reach<D: Disk + Drop, R: Wait>(
     store.give_turn(seat, tables);
 }
 
-/// Makes ready what a pair needs that is kept in this way, and takes out of the prepared tables what the bound has passed.
+/// Makes ready what a pair needs that is kept in this way, and takes out of the prepared sets what the bound has passed.
 fn clear<D: Disk + Drop, R: Wait>(
     store: &Shared<D>,
     rt: &R,

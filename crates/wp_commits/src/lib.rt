@@ -6,14 +6,14 @@
 //! - The evicted bound rises to the decision of the pair that is to go. Numbers of the prepared heap up to it become delayed ones
 //!   in the same step, and the delayed flag is up before.
 //! - Under the prepared turn the pair becomes a delayed commit, where its number is prepared still: a transaction leaves the
-//!   prepared tables only once its commit is published and the write turn is given.
+//!   prepared sets only once its commit is published and the write turn is given.
 //! - Under the snapshots turn its number is kept under each live number that overlaps it, with the old-map flag up.
 //!
 //! A pair that decided itself, of a direct write or of an undo, overlaps no snapshot and is no prepared one's: for it the bound
 //! alone may have to rise.
 //!
 //! A pair whose numbers are too far apart has no word. It becomes a delayed commit where its word would be stored, once the bound has
-//! come to its number, so that a reader looks for it there; and it waits in the prepared tables until a later clearing finds the bound
+//! come to its number, so that a reader looks for it there; and it waits in the prepared sets until a later clearing finds the bound
 //! at its decision. Each clearing takes out all that the bound has passed so, under both turns.
 //!
 //! That the pair may go is noted, and stays so until the word is stored, whatever others do: `clear_all` takes all memory before

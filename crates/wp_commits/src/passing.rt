@@ -1,4 +1,4 @@
-//! Taking out of the prepared tables what the evicted bound has passed.
+//! Taking out of the prepared sets what the evicted bound has passed.
 ghost use Rattle.std.specs.Prelude.{◌≡◌, true, [], ◌∷◌, OnOk};
 ghost use Rattle.wp_core.specs.States.{writes, prepared, snapshots};
 ghost use Rattle.wp_core.specs.Views.{none_waits};
@@ -17,7 +17,7 @@ use wp_shared::{Log, Seat, Shared};
 use wp_snaps::Snaps;
 
 /// Under the two turns: each delayed commit that the bound has passed is kept under each live number that it overlaps, and then its
-/// number leaves the prepared tables.
+/// number leaves the prepared sets.
 fn pass_all<D: Disk + Drop>(
     store: &Shared<D>,
     seat: &mut Seat<D>,
@@ -43,7 +43,7 @@ fn pass_all<D: Disk + Drop>(
     Ok(())
 }
 
-/// Takes each delayed commit that the bound has passed out of the prepared tables, so that none waits. Where the delayed flag says
+/// Takes each delayed commit that the bound has passed out of the prepared sets, so that none waits. Where the delayed flag says
 /// that nothing is delayed, none does, and no turn is taken. Where memory is wanting some may be left.
 pub(crate) fn pass<D: Disk + Drop, R: Wait>(
     store: &Shared<D>,

@@ -211,7 +211,7 @@ pub(crate) fn delay_pending<D: Disk + Drop>(
     note(store, seat, PairNote::PairDelayed);
 }
 
-/// Takes the number, which is decided, out of all prepared tables, the delayed commits too, and puts the flag down where nothing
+/// Takes the number, which is decided, out of all prepared sets, the delayed commits too, and puts the flag down where nothing
 /// is delayed any more.
 pub(crate) fn forget_prepared<D: Disk + Drop>(
     store: &Shared<D>,
@@ -266,7 +266,7 @@ pub(crate) fn passed<D: Disk + Drop>(
     tables.passed(bound)
 }
 
-/// Takes the number, to whose decision the bound has come and which is kept for the snapshots, out of all prepared tables, and puts the
+/// Takes the number, to whose decision the bound has come and which is kept for the snapshots, out of all prepared sets, and puts the
 /// flag down where nothing is delayed any more.
 pub(crate) fn let_go<D: Disk + Drop>(
     store: &Shared<D>,

@@ -1,5 +1,5 @@
 -- A refused compaction installed no edit and called no device, or a device failed it.
-use Rattle.std.proofs.Common.{◌≡◌, ◌⊎◌, inl, inr, List, [], ◌∷◌, ◌++◌, Option, Some, None, refl, ap}
+use Rattle.std.proofs.Common.{◌≡◌, ◌⊎◌, inl, inr, List, [], ◌∷◌, ◌++◌, Option, Some, None, refl}
 use Rattle.std.specs.Prelude.{Result, Ok, Err, IfErr}
 use Rattle.wp_core.specs.Lists.{IsIn}
 use Rattle.wp_core.specs.Sound.Actors.{StartsWith}
@@ -9,11 +9,11 @@ use Rattle.wp_shared.specs.Seats.{SharedState, SeatState}
 use Rattle.wp_maint.specs.declared.done.Done.{Done}
 use Rattle.wp_maint.specs.declared.error.MaintError.{MaintError}
 use Rattle.wp_maint.specs.declared.error.MaintError.TheVariants.{Memory, Nothing, TableFault, TablesStopped}
-use Rattle.wp_maint.specs.Calls.{installs_of, KeepsEach, UnlessFault, RefusesBeforeDevices, found_by}
+use Rattle.wp_maint.specs.Calls.{KeepsEach, UnlessFault, RefusesBeforeDevices, found_by}
 use Rattle.wp_compact.specs.Calls.{Compacts}
 use Rattle.wp_compact.specs.Compaction.{InRound}
 use Rattle.wp_maint.proofs.Onward.{IsSeat, held_between}
-use Rattle.wp_maint.proofs.BeforeInstall.{err_more, none_remembered, remembered}
+use Rattle.wp_maint.proofs.BeforeInstall.{as_it_was, err_more, marked, none_marked}
 
 pub round_more : {A B : Type 0} → (A → B) → (result : Option (Result Done MaintError)) → InRound A result → InRound B result
 round_more f (Some result) k = err_more f result k
@@ -53,7 +53,7 @@ module _ {D : Type 0} (z : SharedState D) (s v : SeatState) where
 module _ {D : Type 0} (z : SharedState D) (old new : SeatState) (Leaves : Type 0) where
   pub compacted_before : (result : Result Done MaintError) → Compacts z old result new → IfErr result (UnlessFault Leaves) → IfErr result (λ why. RefusesBeforeDevices Leaves old why new)
   compacted_before (Ok done) k left = tt
-  compacted_before (Err Memory) k left = (ap installs_of k.1.participant, left)
-  compacted_before (Err Nothing) k left = (none_remembered z old new (found_by z old new k.0 k.1.found ∷ []) refl k.1.goes_on, left)
-  compacted_before (Err TableFault) k left = (k.0.last, k.1.asked, remembered z old new (found_by z old new k.0 k.1.found ∷ tables_failed k.0.last k.1.asked ∷ []) k.1.goes_on)
-  compacted_before (Err (TablesStopped flushed)) k left = (none_remembered z old new (found_by z old new k.0 k.1.found ∷ []) refl k.1.goes_on, left)
+  compacted_before (Err Memory) k left = (as_it_was z old new k.1, left)
+  compacted_before (Err Nothing) k left = (none_marked z old new (found_by z old new k.0 k.1.found ∷ []) refl k.1.goes_on, left)
+  compacted_before (Err TableFault) k left = (k.0.last, k.1.asked, marked z old new (found_by z old new k.0 k.1.found ∷ tables_failed k.0.last k.1.asked ∷ []) k.1.goes_on)
+  compacted_before (Err (TablesStopped flushed)) k left = (none_marked z old new (found_by z old new k.0 k.1.found ∷ []) refl k.1.goes_on, left)

@@ -142,7 +142,7 @@ module _ {D : Type 0} (z : SharedState D) (s u : SeatState) (e left : VersionSet
               (subst (λ (x : (List Entry × List ℕ) × ℕ). IsCompactionCount x.0.0 x.1 floor (length (retained x.0.0 x.0.1 e.state.last))) (λ i. (same i, opened.2 i)) may.few);
           left = held_left z s u v (record e.state { last = after_compaction (take floor v.knows.participant.seen) (listed (numbers_of live) first.segment.base e.state.last) e.state.last }) k.stands (changed_seat z s u e.state left.state k.changes) seen (ap (λ (x : SeatState). x.knows.participant) put.same)
               (subst (λ (t : Installed). IsIn (installed t) u.knows.held) (k.state ∙ ap (λ (edit : InstalledEdit). record e.state { last = edit }) named) (subst (IsIn (installed left.state)) (sym k.holds.turn.held) (inl refl)));
-          state = tables_became e left holds.of_store k.holds.of_store k.edits k.still_edits (k.state ∙ ap (λ (edit : InstalledEdit). record e.state { last = edit }) named) (parts ∙ ap (λ (l : List Version). new_parts l) kept_then);
+          tables = tables_became e left holds.of_store k.holds.of_store k.edits k.still_edits (k.state ∙ ap (λ (edit : InstalledEdit). record e.state { last = edit }) named) (parts ∙ ap (λ (l : List Version). new_parts l) kept_then);
           survives = subst (SurvivesInstall e left) named k.survives;
           throughout = opens_throughout s.knows.participant.seen v.knows.participant.seen e left next (after_compaction (take floor v.knows.participant.seen) (listed (numbers_of live) first.segment.base e.state.last) e.state.last) k.edits running k.survives next_covered refl then named;
           goes_on = subst (λ (edit : InstalledEdit). GoesOnAs s v (after edit)) named (goes_still s u v (after next) one second);

@@ -88,9 +88,9 @@ module _ {D : Type 0} (First Last : Participant → Type 0) (z : SharedState D) 
       versions = k.versions ∙ ap (λ (h : List Entry). length (retained h (listed k.live k.first.segment.base e.last) e.last)) p.1;
       few = subst (λ (h : List Entry). IsCompactionCount h k.first.segment.base done.at done.versions) p.1 k.few;
       left = subst (λ (h : List Entry). HeldTables z s v v.knows.participant.past (record e { last = after_compaction h (listed k.live k.first.segment.base e.last) e.last })) p.1 (holds_on (record e { last = after_compaction (take done.at u.knows.participant.seen) (listed k.live k.first.segment.base e.last) e.last }) k.left);
-      state = tables_so k.state (ap (λ (h : List Entry). record e { last = after_compaction h (listed k.live k.first.segment.base e.last) e.last }) p.1) (k.state.so ∙ ap (λ (h : List Entry). new_parts (retained h (listed k.live k.first.segment.base e.last) e.last)) p.1);
-      survives = subst (λ (h : List Entry). SurvivesInstall k.state.before k.state.after (after_compaction h (listed k.live k.first.segment.base e.last) e.last)) p.1 k.survives;
-      throughout = throughout_on k.state.before k.state.after (after_compaction (take done.at u.knows.participant.seen) (listed k.live k.first.segment.base e.last) e.last) (after_compaction (take done.at v.knows.participant.seen) (listed k.live k.first.segment.base e.last) e.last) (ap (λ (h : List Entry). after_compaction h (listed k.live k.first.segment.base e.last) e.last) p.1) k.throughout;
+      tables = tables_so k.tables (ap (λ (h : List Entry). record e { last = after_compaction h (listed k.live k.first.segment.base e.last) e.last }) p.1) (k.tables.so ∙ ap (λ (h : List Entry). new_parts (retained h (listed k.live k.first.segment.base e.last) e.last)) p.1);
+      survives = subst (λ (h : List Entry). SurvivesInstall k.tables.before k.tables.after (after_compaction h (listed k.live k.first.segment.base e.last) e.last)) p.1 k.survives;
+      throughout = throughout_on k.tables.before k.tables.after (after_compaction (take done.at u.knows.participant.seen) (listed k.live k.first.segment.base e.last) e.last) (after_compaction (take done.at v.knows.participant.seen) (listed k.live k.first.segment.base e.last) e.last) (ap (λ (h : List Entry). after_compaction h (listed k.live k.first.segment.base e.last) e.last) p.1) k.throughout;
       goes_on = remembers_on k.found (event.installed (after_compaction (take done.at v.knows.participant.seen) (listed k.live k.first.segment.base e.last) e.last) true ∷ [])
           (subst (λ (h : List Entry). First (with_events (found_by z t u e k.found ∷ event.installed (after_compaction h (listed k.live k.first.segment.base e.last) e.last) true ∷ []) t.knows.participant)) p.1 k.goes_on);
     }

@@ -69,9 +69,9 @@ pub record HasCompacted {D : Type 0} (Goes : Participant → Type 0) (Pinned : �
   pub versions : done.versions ≡ length (retained (take done.at new.knows.participant.seen) (listed live first.segment.base e.last) e.last)
   pub few : IsCompactionCount (take done.at new.knows.participant.seen) first.segment.base done.at done.versions
   pub left : HeldTables z old new new.knows.participant.past (record e { last = after_compaction (take done.at new.knows.participant.seen) (listed live first.segment.base e.last) e.last })
-  pub state : TablesBecame z e (record e { last = after_compaction (take done.at new.knows.participant.seen) (listed live first.segment.base e.last) e.last }) (HasAlone (retained (take done.at new.knows.participant.seen) (listed live first.segment.base e.last) e.last))
-  pub survives : SurvivesInstall state.before state.after (after_compaction (take done.at new.knows.participant.seen) (listed live first.segment.base e.last) e.last)
-  pub throughout : OpensThroughout old.knows.participant.seen new.knows.participant.seen state.before state.after (after_compaction (take done.at new.knows.participant.seen) (listed live first.segment.base e.last) e.last)
+  pub tables : TablesBecame z e (record e { last = after_compaction (take done.at new.knows.participant.seen) (listed live first.segment.base e.last) e.last }) (HasAlone (retained (take done.at new.knows.participant.seen) (listed live first.segment.base e.last) e.last))
+  pub survives : SurvivesInstall tables.before tables.after (after_compaction (take done.at new.knows.participant.seen) (listed live first.segment.base e.last) e.last)
+  pub throughout : OpensThroughout old.knows.participant.seen new.knows.participant.seen tables.before tables.after (after_compaction (take done.at new.knows.participant.seen) (listed live first.segment.base e.last) e.last)
   pub goes_on : Goes (with_events (found_by z old new e found ∷ event.installed (after_compaction (take done.at new.knows.participant.seen) (listed live first.segment.base e.last) e.last) true ∷ []) old.knows.participant)
 
 -- the edit is that of a compaction of these tables at a floor with these live numbers

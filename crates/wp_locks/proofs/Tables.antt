@@ -1,4 +1,4 @@
--- What a step on one of the tables makes of it.
+-- What a step on one of the maps makes of it.
 use Rattle.std.proofs.Common.{◌≡◌, ℕ, ◌+◌, ◌<◌, true, List, [], ◌∷◌, ◌++◌, length, map, take, get_or, Option, Some, None, is_some, refl, sym, ap, subst, ◌∙◌}
 use Rattle.std.specs.FinMap as finite
 use Rattle.std.proofs.lemmas.Bool.{false≢true}
@@ -54,6 +54,6 @@ freed_one es ns keys changes i change within is so_far updated =
     ∙ sym (fold-append (λ (left : Keys) (key : List ℕ). finite.remove left key) keys (map key_of (take i changes)) (key_of change ∷ []))
     ∙ ap (keys_without keys) (sym (map-append key_of (take i changes) (change ∷ [])) ∙ ap (map key_of) (ap (λ (x : Change). take i changes ++ x ∷ []) is ∙ sym (take_more changes i change within)))
 
--- the tables with other keys that equal theirs
+-- the state with other keys that equal its own
 pub with_keys : (t : LockState) (keys : Keys) → t.keys ≡ keys → t ≡ record t { keys = keys }
 with_keys t keys is = ap (λ ks. record t { keys = ks }) is

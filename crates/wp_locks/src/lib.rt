@@ -1,4 +1,4 @@
-//! The locks turn's tables: which transactions' names are live, who holds each key, and what was told.
+//! The locks turn's state: which transactions' names are live, who holds each key, and what was told.
 //!
 //! A name is live from its claim until it is freed, and at most one client has it: a client that leaves a prepared
 //! transaction keeps the name live for whoever takes it. A key has at most one holder, a transaction or a client's

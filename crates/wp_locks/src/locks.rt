@@ -55,7 +55,7 @@ impl Locks {
         }
     }
 
-    /// The tables at the opening of a store: the names of the prepares that the history leaves undecided are live
+    /// The state at the opening of a store: the names of the prepares that the history leaves undecided are live
     /// and had by nobody, each of their keys is held by its transaction, and nothing is told.
     pub fn left_by(history: &History, alloc: Global) -> Result<Locks, AllocError>
         ensures { IfOk result (AreOpened history.now.entries) }

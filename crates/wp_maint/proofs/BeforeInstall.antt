@@ -1,17 +1,19 @@
--- A refused flush or renewal installed no edit and did not call the manifest's device, or a device failed it; and what that says of any call.
-use Rattle.std.proofs.Common.{◌≡◌, inl, inr, ℕ, Bool, true, false, List, [], ◌∷◌, ◌++◌, filter, length, length-append, Some, refl, sym, subst, ap, ◌∙◌, append-nil, arith}
-use Rattle.std.proofs.lemmas.List.{append_cancel_left}
+-- A refused flush or renewal called no device, or one failed it; and what that says of any call.
+use Rattle.std.proofs.Common.{◌≡◌, inl, inr, ℕ, List, [], ◌∷◌, ◌++◌, filter, Some, refl, sym, subst, ap, ◌∙◌, append-nil}
 use Rattle.std.proofs.lemmas.List.Elements.{filter-append}
 use Rattle.std.specs.Prelude.{Result, Ok, Err, IfErr}
 use Rattle.wp_core.specs.Lists.{IsIn}
 use Rattle.wp_core.specs.Sound.Actors.{StartsWith}
+use Rattle.wp_core.specs.Sound.Pasts.{is_install}
 use Rattle.wp_core.specs.States.{installed}
 use Rattle.wp_core.specs.Views.{Event, log_failed, log_stopped, stopped, tables_failed}
+use Rattle.wp_core.specs.Views as event
 use Rattle.wp_core.specs.World.{Participant, World}
 use Rattle.wp_rule.specs.Words.{IsAt}
 use Rattle.wp_parts.specs.VersionSet.{VersionSetState, IsEdits}
 use Rattle.wp_parts.specs.Parts.{EditsStand, set_first}
 use Rattle.wp_shared.specs.Calls.{Continues, with_events}
+use Rattle.wp_shared.specs.Devices.{CalledNoDevice, LeftMarks, device_marks, is_device_mark}
 use Rattle.wp_shared.specs.Seats.{SharedState, SeatState, Stands, place_at}
 use Rattle.wp_shared.proofs.Onward.{starts_equal}
 use Rattle.wp_maint.specs.declared.done.Done.{Done}
@@ -20,7 +22,7 @@ use Rattle.wp_maint.specs.declared.error.MaintError.TheVariants.{Memory, Nothing
 use Rattle.wp_maint.specs.declared.renewed.Renewed.{Renewed}
 use Rattle.wp_maint.specs.declared.renewed.RenewError.{RenewError}
 use Rattle.wp_maint.specs.declared.renewed.RenewError.TheVariants as renewal
-use Rattle.wp_maint.specs.Calls.{AreSameTables, Finds, Flushes, GivesBack, InstalledNone, IsUncalled, is_of_edit, is_of_install, installs_of, LeavesOnce, KeepsOnce, KeepsEach, MadeNoInstall, FailedOnce, UnlessFault, RefusesBeforeDevices, found_by}
+use Rattle.wp_maint.specs.Calls.{AreSameTables, Finds, Flushes, GivesBack, InstalledNone, IsUncalled, LeavesOnce, KeepsOnce, KeepsEach, FailedOnce, UnlessFault, RefusesBeforeDevices, found_by}
 use Rattle.wp_maint.specs.Installs.{AreLeft}
 use Rattle.wp_maint.specs.Renewal.{BeforeDevices, IsRefusedBefore, Renews, UnlessDeviceFault}
 use Rattle.wp_maint.proofs.Became.{tables_became}
@@ -104,12 +106,15 @@ module _ {D : Type 0} (z : SharedState D) (old new : SeatState) where
   abbrev p : Participant
   p = old.knows.participant
 
-  -- it remembers these events too, of which some are of an install
-  pub remembered : (events : List Event) → Continues z old new (with_events events p) → installs_of new.knows.participant ≡ installs_of p ++ filter is_of_install events
-  remembered events goes = ap installs_of goes.participant ∙ filter-append is_of_install p.past events
+  -- it remembers these events too, of which some are marks
+  pub marked : (events : List Event) → Continues z old new (with_events events p) → LeftMarks (filter is_device_mark events) p new.knows.participant
+  marked events goes = record { own = ap (λ (x : Participant). x.own) goes.participant; marks = ap device_marks goes.participant ∙ filter-append is_device_mark p.past events }
 
-  pub none_remembered : (events : List Event) → filter is_of_install events ≡ [] → Continues z old new (with_events events p) → installs_of new.knows.participant ≡ installs_of p
-  none_remembered events none goes = remembered events goes ∙ ap (λ (es : List Event). installs_of p ++ es) none ∙ append-nil (installs_of p)
+  pub none_marked : (events : List Event) → filter is_device_mark events ≡ [] → Continues z old new (with_events events p) → CalledNoDevice p new.knows.participant
+  none_marked events none goes = let k = marked events goes in record { own = k.own; marks = k.marks ∙ ap (λ (es : List Event). device_marks p ++ es) none ∙ append-nil (device_marks p) }
+
+  pub as_it_was : Continues z old new p → CalledNoDevice p new.knows.participant
+  as_it_was goes = record { own = ap (λ (x : Participant). x.own) goes.participant; marks = ap device_marks goes.participant }
 
   -- what it has seen since
   pub flushed_grown : (result : Result Done MaintError) → Flushes z old result new → StartsWith new.knows.participant.seen p.seen
@@ -131,49 +136,56 @@ module _ {D : Type 0} (z : SharedState D) (old new : SeatState) where
   module _ (Leaves : Type 0) where
     pub renewed_before : (result : Result Renewed RenewError) → Renews z old result new → IfErr result (UnlessDeviceFault Leaves) → IfErr result (λ why. IsRefusedBefore Leaves old why new)
     renewed_before (Ok done) k left = tt
-    renewed_before (Err renewal.Memory) k left = (ap installs_of k.1.goes_on.participant, left)
-    renewed_before (Err (renewal.TablesStopped flushed)) k left = (none_remembered (found_by z old new k.0 k.1.found ∷ []) refl k.1.goes_on, left)
-    renewed_before (Err (renewal.Stopped n)) k left = (none_remembered (found_by z old new k.0 k.1.found ∷ stopped n ∷ []) refl k.1.goes_on, left)
-    renewed_before (Err renewal.Nothing) k left = (none_remembered (found_by z old new k.0 k.1.found ∷ []) refl k.1.goes_on, left)
-    renewed_before (Err renewal.TableFault) k left = (k.0.last, k.1.asked, remembered (found_by z old new k.0 k.1.found ∷ tables_failed k.0.last k.1.asked ∷ log_stopped ∷ []) k.1.goes_on)
-    renewed_before (Err renewal.LogFault) k left = (none_remembered (found_by z old new k.0 k.1.found ∷ log_failed [] ∷ []) refl k.1.goes_on, left)
+    renewed_before (Err renewal.Memory) k left = (as_it_was k.1.goes_on, left)
+    renewed_before (Err (renewal.TablesStopped flushed)) k left = (none_marked (found_by z old new k.0 k.1.found ∷ []) refl k.1.goes_on, left)
+    renewed_before (Err (renewal.Stopped n)) k left = (none_marked (found_by z old new k.0 k.1.found ∷ stopped n ∷ []) refl k.1.goes_on, left)
+    renewed_before (Err renewal.Nothing) k left = (none_marked (found_by z old new k.0 k.1.found ∷ []) refl k.1.goes_on, left)
+    renewed_before (Err renewal.TableFault) k left = (k.0.last, k.1.asked, marked (found_by z old new k.0 k.1.found ∷ tables_failed k.0.last k.1.asked ∷ log_stopped ∷ []) k.1.goes_on)
+    renewed_before (Err renewal.LogFault) k left = (marked (found_by z old new k.0 k.1.found ∷ log_failed [] ∷ []) k.1.goes_on, left)
 
     pub flushed_before : (result : Result Done MaintError) → Flushes z old result new → IfErr result (UnlessFault Leaves) → IfErr result (λ why. RefusesBeforeDevices Leaves old why new)
     flushed_before (Ok done) k left = tt
-    flushed_before (Err Memory) k left = (ap installs_of k.1.participant, left)
-    flushed_before (Err Nothing) k left = (none_remembered (found_by z old new k.0 k.1.1.found ∷ []) refl k.1.1.goes_on, left)
-    flushed_before (Err TableFault) k left = (k.0.last, k.1.1.asked, remembered (found_by z old new k.0 k.1.1.found ∷ tables_failed k.0.last k.1.1.asked ∷ []) k.1.1.goes_on)
-    flushed_before (Err (TablesStopped flushed)) k left = (none_remembered (found_by z old new k.0 k.1.found ∷ []) refl k.1.goes_on, left)
+    flushed_before (Err Memory) k left = (as_it_was k.1, left)
+    flushed_before (Err Nothing) k left = (none_marked (found_by z old new k.0 k.1.1.found ∷ []) refl k.1.1.goes_on, left)
+    flushed_before (Err TableFault) k left = (k.0.last, k.1.1.asked, marked (found_by z old new k.0 k.1.1.found ∷ tables_failed k.0.last k.1.1.asked ∷ []) k.1.1.goes_on)
+    flushed_before (Err (TablesStopped flushed)) k left = (none_marked (found_by z old new k.0 k.1.found ∷ []) refl k.1.goes_on, left)
 
 -- ---- no edit was installed
 
-one_more : (xs : List Event) (x : Event) → xs ≡ xs ++ x ∷ [] → ⊥
-one_more xs x is = let l = ap (λ (es : List Event). length es) is in let m = length-append xs (x ∷ []) in omega (arith, l, m)
+-- an installed edit is a mark
+edits_marked : (events : List Event) → filter is_install (filter is_device_mark events) ≡ filter is_install events
+edits_marked [] = refl
+edits_marked (event.installed edit compacts ∷ events) = ap (λ (es : List Event). event.installed edit compacts ∷ es) (edits_marked events)
+edits_marked (event.renewed edit ∷ events) = ap (λ (es : List Event). event.renewed edit ∷ es) (edits_marked events)
+edits_marked (other ∷ events) = edits_marked events
 
-abbrev first_of_edit : List Event → Bool
-first_of_edit (e ∷ events) = is_of_edit e
-first_of_edit [] = false
+marked_none : (p q : Participant) (events : List Event) → filter is_install events ≡ [] → device_marks q ≡ device_marks p ++ events → InstalledNone p q
+marked_none p q events none more =
+    sym (edits_marked q.past)
+    ∙ ap (filter is_install) more
+    ∙ filter-append is_install (device_marks p) events
+    ∙ ap (λ (es : List Event). filter is_install (device_marks p) ++ es) none
+    ∙ append-nil (filter is_install (device_marks p))
+    ∙ edits_marked p.past
 
-pub made_none : (p q : Participant) → MadeNoInstall p q → InstalledNone p q
-made_none p q same made of_edit more = one_more (installs_of p) made (sym same ∙ more)
+pub called_none : (p q : Participant) → CalledNoDevice p q → InstalledNone p q
+called_none p q k = sym (edits_marked q.past) ∙ ap (filter is_install) k.marks ∙ edits_marked p.past
 
-pub failed_none : (p q : Participant) → FailedOnce p q → InstalledNone p q
-failed_none p q k made of_edit more =
-    let one = append_cancel_left (installs_of p) (tables_failed k.0 k.1 ∷ []) (made ∷ []) (sym k.2 ∙ more) in
-    let wrong : false ≡ true = ap first_of_edit one ∙ of_edit in absurd cc
+pub failed_none : (p q : Participant) (others : List Event) → filter is_install others ≡ [] → FailedOnce others p q → InstalledNone p q
+failed_none p q others none k = marked_none p q (tables_failed k.0 k.1 ∷ others) none k.2.marks
 
 pub none_installed : (Keeps : Type 0) (old new : SeatState) (result : Result Done MaintError) → IfErr result (λ why. RefusesBeforeDevices Keeps old why new) → IfErr result (λ _. InstalledNone old.knows.participant new.knows.participant)
 none_installed Keeps old new (Ok done) k = tt
-none_installed Keeps old new (Err TableFault) k = failed_none old.knows.participant new.knows.participant k
-none_installed Keeps old new (Err Memory) k = made_none old.knows.participant new.knows.participant k.0
-none_installed Keeps old new (Err Nothing) k = made_none old.knows.participant new.knows.participant k.0
-none_installed Keeps old new (Err (TablesStopped flushed)) k = made_none old.knows.participant new.knows.participant k.0
+none_installed Keeps old new (Err TableFault) k = failed_none old.knows.participant new.knows.participant [] refl k
+none_installed Keeps old new (Err Memory) k = called_none old.knows.participant new.knows.participant k.0
+none_installed Keeps old new (Err Nothing) k = called_none old.knows.participant new.knows.participant k.0
+none_installed Keeps old new (Err (TablesStopped flushed)) k = called_none old.knows.participant new.knows.participant k.0
 
 pub none_renewed : (Leaves : Type 0) (old new : SeatState) (result : Result Renewed RenewError) → IfErr result (λ why. IsRefusedBefore Leaves old why new) → IfErr result (λ _. InstalledNone old.knows.participant new.knows.participant)
 none_renewed Leaves old new (Ok done) k = tt
-none_renewed Leaves old new (Err renewal.TableFault) k = failed_none old.knows.participant new.knows.participant k
-none_renewed Leaves old new (Err renewal.Memory) k = made_none old.knows.participant new.knows.participant k.0
-none_renewed Leaves old new (Err (renewal.TablesStopped flushed)) k = made_none old.knows.participant new.knows.participant k.0
-none_renewed Leaves old new (Err (renewal.Stopped n)) k = made_none old.knows.participant new.knows.participant k.0
-none_renewed Leaves old new (Err renewal.Nothing) k = made_none old.knows.participant new.knows.participant k.0
-none_renewed Leaves old new (Err renewal.LogFault) k = made_none old.knows.participant new.knows.participant k.0
+none_renewed Leaves old new (Err renewal.TableFault) k = failed_none old.knows.participant new.knows.participant (log_stopped ∷ []) refl k
+none_renewed Leaves old new (Err renewal.Memory) k = called_none old.knows.participant new.knows.participant k.0
+none_renewed Leaves old new (Err (renewal.TablesStopped flushed)) k = called_none old.knows.participant new.knows.participant k.0
+none_renewed Leaves old new (Err (renewal.Stopped n)) k = called_none old.knows.participant new.knows.participant k.0
+none_renewed Leaves old new (Err renewal.Nothing) k = called_none old.knows.participant new.knows.participant k.0
+none_renewed Leaves old new (Err renewal.LogFault) k = marked_none old.knows.participant new.knows.participant (log_failed [] ∷ []) refl k.0.marks

@@ -78,7 +78,7 @@ module _ {D : Type 0} (z : SharedState D) (s u : SeatState) (e left : VersionSet
             versions = counted ∙ frozen.count ∙ ap (λ (h : List Entry). length (unflushed h e.state.last)) (sym seen);
             left = held_left z s u v (record e.state { last = after_flush v.knows.participant.seen e.state.last }) k.stands (changed_seat z s u e.state left.state k.changes) before (ap (λ (x : SeatState). x.knows.participant) put.same)
                 (subst (λ (t : Installed). IsIn (installed t) u.knows.held) (k.state ∙ ap (λ (h : List Entry). record e.state { last = after_flush h e.state.last }) (sym seen)) (subst (IsIn (installed left.state)) (sym k.holds.turn.held) (inl refl)));
-            state = tables_became e left holds.of_store k.holds.of_store k.edits k.still_edits (k.state ∙ ap (λ (h : List Entry). record e.state { last = after_flush h e.state.last }) (sym seen)) (parts ∙ ap (λ (l : List Version). l ∷ e.parts) (frozen.versions ∙ ap (λ (h : List Entry). sorted_of (unflushed h e.state.last)) (sym seen)));
+            tables = tables_became e left holds.of_store k.holds.of_store k.edits k.still_edits (k.state ∙ ap (λ (h : List Entry). record e.state { last = after_flush h e.state.last }) (sym seen)) (parts ∙ ap (λ (l : List Version). l ∷ e.parts) (frozen.versions ∙ ap (λ (h : List Entry). sorted_of (unflushed h e.state.last)) (sym seen)));
             survives = subst (λ (h : List Entry). SurvivesInstall e left (after_flush h e.state.last)) (sym seen) k.survives;
             throughout = opens_throughout s.knows.participant.seen v.knows.participant.seen e left next (after_flush v.knows.participant.seen e.state.last) k.edits running k.survives frozen.covered refl seen (ap (λ (h : List Entry). after_flush h e.state.last) (sym seen));
             goes_on = subst (λ (h : List Entry). GoesOnAs s v (after (after_flush h e.state.last))) (sym seen) (goes_still s u v (after next) first second);

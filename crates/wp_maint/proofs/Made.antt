@@ -43,7 +43,7 @@ module _ (p : Place) (so : World → Type 0) (s u : SeatState) (same : (u.table 
   abbrev after : Actor
   after = actor_after (steps m.world) m.world p.by s.knows
 
-  -- it goes on from this actor, of which it has other tables and notes
+  -- it goes on from this actor, of which it has other states and notes
   pub goes_from : (from : Actor) (test : Fact → Bool) (held : List Content) → from.notes ≡ s.knows.notes → after ≡ record from { held = after.held; notes = after.notes } → after.held ≡ held → ((fact : Fact) → test fact ≡ false → Outlasts fact (steps m.world) m.world p.by s.knows)
       → GoesOn test held s.turns (record s { knows = from }) u
   goes_from from test held notes form left stays = record {
@@ -62,7 +62,7 @@ stands_after z steps so s u by m =
 -- ---- what was found
 
 find_ends : EndsNothing find_edit
-find_ends = record { guard = λ turn. refl; place = λ words place. refl; words = refl; delayed_flag = refl; old_flag = refl; pending = refl; adds = refl; takes = refl; prepared = refl; unprepared = refl; delays = refl; transaction = λ history name. refl; direct = refl; moves = refl; replaces = refl; installing = refl }
+find_ends = record { guard = λ turn. refl; place = λ words place. refl; words = refl; delayed_flag = refl; old_flag = refl; pending = refl; adds = refl; takes = refl; prepared = refl; unprepared = refl; delays = refl; transaction = λ history name. refl; changes = λ history key. refl; direct = refl; moves = refl; replaces = refl; installing = refl }
 
 pub may_find : (p : Place) (a : Actor) (t : Installed) → IsIn (installed t) a.held → MayMake p a (λ w. find_edit ∷ [])
 may_find p a t held = known_made p a find_edit tt (record { state = t; held = held; so_is = tt })

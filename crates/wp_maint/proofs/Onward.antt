@@ -105,7 +105,7 @@ in_step_on s u test held turns gone named k edit in_step =
 
 -- ---- the tables that it held
 
--- a seat that stood with a table held it, and the one behind has seen and remembers no more
+-- a seat that stood with a state held it, and the one behind has seen and remembers no more
 pub held_then : {D : Type 0} (z : SharedState D) (s u v : SeatState) (table : Content) → (w : World) × Stands z u w → IsSeat s u → StartsWith u.knows.participant.seen s.knows.participant.seen → v.knows.participant ≡ u.knows.participant → IsIn table u.knows.held
     → HeldContent z s v v.knows.participant.past table
 held_then z s u v table stands same seen still held = record {
@@ -195,9 +195,9 @@ module _ {D : Type 0} (First Last : Participant → Type 0) (z : SharedState D) 
     some = k.some;
     versions = k.versions ∙ ap (λ (h : List Entry). length (unflushed h e.last)) seen;
     left = subst (λ (h : List Entry). HeldTables z s v v.knows.participant.past (record e { last = after_flush h e.last })) seen (holds_so (record e { last = after_flush u.knows.participant.seen e.last }) k.left);
-    state = tables_so k.state (ap (λ (h : List Entry). record e { last = after_flush h e.last }) seen) (k.state.so ∙ ap (λ (h : List Entry). sorted_of (unflushed h e.last) ∷ k.state.before.parts) seen);
-    survives = subst (λ (h : List Entry). SurvivesInstall k.state.before k.state.after (after_flush h e.last)) seen k.survives;
-    throughout = throughout_so k.state.before k.state.after (after_flush u.knows.participant.seen e.last) (after_flush v.knows.participant.seen e.last) (ap (λ (h : List Entry). after_flush h e.last) seen) k.throughout;
+    tables = tables_so k.tables (ap (λ (h : List Entry). record e { last = after_flush h e.last }) seen) (k.tables.so ∙ ap (λ (h : List Entry). sorted_of (unflushed h e.last) ∷ k.tables.before.parts) seen);
+    survives = subst (λ (h : List Entry). SurvivesInstall k.tables.before k.tables.after (after_flush h e.last)) seen k.survives;
+    throughout = throughout_so k.tables.before k.tables.after (after_flush u.knows.participant.seen e.last) (after_flush v.knows.participant.seen e.last) (ap (λ (h : List Entry). after_flush h e.last) seen) k.throughout;
     goes_on = remembers_so k.found (event.installed (after_flush v.knows.participant.seen e.last) false ∷ [])
         (subst (λ (h : List Entry). First (with_events (found_by z t u e k.found ∷ event.installed (after_flush h e.last) false ∷ []) t.knows.participant)) seen k.goes_on);
   }
@@ -238,10 +238,10 @@ module _ {D : Type 0} (First Last : Participant → Type 0) (z : SharedState D) 
     carried = k.carried ∙ ap (λ (h : List Entry). length (undecided h)) seen;
     place = k.place;
     left = subst (λ (h : List Entry). HeldTables z s v v.knows.participant.past (record e { last = after_renewal h k.place e.last })) seen (holds_so (record e { last = after_renewal u.knows.participant.seen k.place e.last }) k.left);
-    state = tables_so k.state (ap (λ (h : List Entry). record e { last = after_renewal h k.place e.last }) seen) (k.state.so ∙ ap (λ (h : List Entry). new_parts (sorted_of (unflushed h e.last)) ++ k.state.before.parts) seen);
-    survives = subst (λ (h : List Entry). SurvivesInstall k.state.before k.state.after (after_renewal h k.place e.last)) seen k.survives;
+    tables = tables_so k.tables (ap (λ (h : List Entry). record e { last = after_renewal h k.place e.last }) seen) (k.tables.so ∙ ap (λ (h : List Entry). new_parts (sorted_of (unflushed h e.last)) ++ k.tables.before.parts) seen);
+    survives = subst (λ (h : List Entry). SurvivesInstall k.tables.before k.tables.after (after_renewal h k.place e.last)) seen k.survives;
     log = subst (λ (h : List Entry). LogBecame z k.busy.unclosed.0 (record k.busy.unclosed.0 { segment = record { place = k.place; base = length h }; next = None })
-        (λ before after. SurvivesBeside before after (Some after.state.segment) × NamesItsSegment k.state.before k.state.after before after (Some (after_renewal h k.place e.last)))) seen k.log;
+        (λ before after. SurvivesBeside before after (Some after.state.segment) × NamesItsSegment k.tables.before k.tables.after before after (Some (after_renewal h k.place e.last)))) seen k.log;
     goes_on = remembers_so k.found (event.renewed (after_renewal v.knows.participant.seen k.place e.last) ∷ [])
         (subst (λ (h : List Entry). First (with_events (found_by z t u e k.found ∷ event.renewed (after_renewal h k.place e.last) ∷ []) t.knows.participant)) seen k.goes_on);
   }

@@ -45,7 +45,7 @@ whole_at w sound log g same based =
     (λ i. take ((log_based log g ∙ based) i) ((same ∙ sound.history.log) i)) ∙ take-append_seam w.writes.history (logged_part w.writes.logged w.writes.pending) in
     ap (λ (h : List Entry). undone_last h) (sym front) ∙ g.is_cut.whole
 
--- ---- in a world with both tables as they were
+-- ---- in a world with both states as they were
 
 module _ (old : VersionSetState) (log : LogState) (g : IsLog log) (w : World) (sound : IsSound w) (here : w.installed ≡ old.state) (there : w.writes ≡ log.state) where
   abbrev history : List Entry
@@ -151,10 +151,10 @@ module _ {D : Type 0} (z : SharedState D) (s u : SeatState) (e : Installed) (one
         (ap (λ (t : WriteState). t.segment.base) log.after_is ∙ based ∙ ap (λ (t : WriteState). length t.history) (sym busy.at_once.1))
 
   module _ (Goes : Participant → Type 0) where
-    pub opens_renewed : (done : Renewed) (k : HasRenewed Goes z s u e done) → OpensInRenewal k.state.before k.state.after k.log.before k.log.after (Some (after_renewal u.knows.participant.seen k.place e.last))
+    pub opens_renewed : (done : Renewed) (k : HasRenewed Goes z s u e done) → OpensInRenewal k.tables.before k.tables.after k.log.before k.log.after (Some (after_renewal u.knows.participant.seen k.place e.last))
     opens_renewed done k =
-        opens_in k.busy _ _ k.state _ _ k.log (Some (after_renewal u.knows.participant.seen k.place e.last)) (k.place, refl) k.log.so.1
-        (whole_based k.busy _ _ k.state _ _ k.log refl (ap (λ (h : List Entry). length h) (sym k.busy.history_is)))
+        opens_in k.busy _ _ k.tables _ _ k.log (Some (after_renewal u.knows.participant.seen k.place e.last)) (k.place, refl) k.log.so.1
+        (whole_based k.busy _ _ k.tables _ _ k.log refl (ap (λ (h : List Entry). length h) (sym k.busy.history_is)))
 
     pub opens_broken : (k : HasBrokenOff Goes z s u e) → OpensInRenewal k.fault.before k.fault.after k.log.before k.log.after k.asked
     opens_broken k =

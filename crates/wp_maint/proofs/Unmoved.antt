@@ -30,7 +30,7 @@ use Rattle.wp_maint.proofs.Throughout.{log_amid, opens_as}
 
 -- ---- the manifest's last edit
 
--- it is one that the table says, with its tables
+-- it is one that the state says, with its tables
 names_some : (e : VersionSetState) → EditsStand e → (m t : List ℕ) → images e.set.manifest.log.moments m → images e.set.moments t → (edit : InstalledEdit) × MayName e.state edit × NamesEdit e m t edit
 names_some e stand m t at_m at_t =
     let found = stand.0 m at_m in let named = found.1 in (

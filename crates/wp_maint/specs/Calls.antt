@@ -1,5 +1,5 @@
 -- What a flush answers, and what it leaves of the seat; and what a compaction and a renewal say in the same words.
-use Rattle.std.specs.Prelude.{◌≡◌, ℕ, ◌≤◌, Bool, true, false, List, [], ◌∷◌, ◌++◌, filter, length, take, Option, Some, IfSome, Result, Ok, Err}
+use Rattle.std.specs.Prelude.{◌≡◌, ℕ, ◌≤◌, true, false, List, [], ◌∷◌, filter, length, take, Option, Some, IfSome, Result, Ok, Err}
 use Rattle.wp_model.specs.declared.entry.Entry.{Entry}
 use Rattle.wp_model.specs.declared.version.Version.{Version}
 use Rattle.wp_model.specs.Flushed.{InstalledEdit}
@@ -8,7 +8,7 @@ use Rattle.wp_replies.specs.Tables.{unflushed, after_flush}
 use Rattle.wp_core.specs.Effects.{with_failed}
 use Rattle.wp_core.specs.Lists.{IsIn}
 use Rattle.wp_core.specs.Sound.Actors.{StartsWith}
-use Rattle.wp_core.specs.Sound.Pasts.{tables_due}
+use Rattle.wp_core.specs.Sound.Pasts.{is_install, tables_due}
 use Rattle.wp_core.specs.States.{Content, Installed, writes, installed}
 use Rattle.wp_core.specs.Views.{Event, tables_failed, found_edit}
 use Rattle.wp_core.specs.Views as event
@@ -18,6 +18,7 @@ use Rattle.wp_parts.specs.VersionSet.{VersionSetState, IsEdits}
 use Rattle.wp_parts.specs.Installs.{HadCause, SurvivesInstall}
 use Rattle.wp_parts.specs.Parts.{EditsStand, set_first}
 use Rattle.wp_shared.specs.Calls.{Continues, with_events}
+use Rattle.wp_shared.specs.Devices.{CalledNoDevice, LeftMarks}
 use Rattle.wp_shared.specs.Seats.{SharedState, SeatState, place_at}
 use Rattle.wp_maint.specs.Moments.{OpensThroughout}
 use Rattle.wp_maint.specs.declared.done.Done.{Done}
@@ -26,7 +27,7 @@ use Rattle.wp_maint.specs.declared.error.MaintError.TheVariants.{Memory, Nothing
 
 -- ---- what the seat held
 
--- In a reached world of the store the seat held a turn, with this table. It had this past then, had seen no less than
+-- In a reached world of the store the seat held a turn, with this state. It had this past then, had seen no less than
 -- before the call and no more than after it, and had made and taken in as many others.
 pub record HeldContent {D : Type 0} (z : SharedState D) (old new : SeatState) (past : List Event) (table : Content) : Type 0 where
   pub world : World
@@ -64,7 +65,7 @@ Finds z old new e = HeldTables z old new old.knows.participant.past e
 abbrev pub found_by : {D : Type 0} → (z : SharedState D) → (old new : SeatState) → (e : Installed) → Finds z old new e → Event
 found_by z old new e found = found_edit e.last.flushed e.last.segment.base e.last.tables (tables_due found.world.first_edit old.knows.participant.past) e.halted
 
--- The store's tables on their devices, as the call found them, with this table, and as it left them, with that one. Both are what
+-- The store's tables on their devices, as the call found them, with this state, and as it left them, with that one. Both are what
 -- the value behind the turn may be: the devices have the tables that it names, one has failed since the opening just where it is halted,
 -- and what was for good then is so still. No clause of a call on a shared store sees its devices: that the value was the one and became the
 -- other in this very call is what the install itself says, of the value that the call took out from behind the turn.
@@ -139,9 +140,9 @@ pub record HasFlushed {D : Type 0} (Goes : Participant → Type 0) (z : SharedSt
   pub some : 1 ≤ done.versions
   pub versions : done.versions ≡ length (unflushed new.knows.participant.seen e.last)
   pub left : HeldTables z old new new.knows.participant.past (record e { last = after_flush new.knows.participant.seen e.last })
-  pub state : TablesBecame z e (record e { last = after_flush new.knows.participant.seen e.last }) (HasNewest (sorted_of (unflushed new.knows.participant.seen e.last)))
-  pub survives : SurvivesInstall state.before state.after (after_flush new.knows.participant.seen e.last)
-  pub throughout : OpensThroughout old.knows.participant.seen new.knows.participant.seen state.before state.after (after_flush new.knows.participant.seen e.last)
+  pub tables : TablesBecame z e (record e { last = after_flush new.knows.participant.seen e.last }) (HasNewest (sorted_of (unflushed new.knows.participant.seen e.last)))
+  pub survives : SurvivesInstall tables.before tables.after (after_flush new.knows.participant.seen e.last)
+  pub throughout : OpensThroughout old.knows.participant.seen new.knows.participant.seen tables.before tables.after (after_flush new.knows.participant.seen e.last)
   pub goes_on : Goes (with_events (found_by z old new e found ∷ event.installed (after_flush new.knows.participant.seen e.last) false ∷ []) old.knows.participant)
 
 -- What it answers and leaves where it finds these tables. Where there was nothing to flush, or a device failed, the seat had seen
@@ -157,30 +158,13 @@ FlushesFrom Goes z old e (Err (TablesStopped flushed)) new = IsStopped Goes z ol
 abbrev pub Flushes : {D : Type 0} → SharedState D → SeatState → Result Done MaintError → SeatState → Type 0
 Flushes z old result new = (e : Installed) × FlushesFrom (Continues z old new) z old e result new
 
--- ---- the manifest's device
-
--- an edit was installed, or a device failed
-abbrev pub is_of_install : Event → Bool
-is_of_install (event.installed edit compacts) = true
-is_of_install (event.renewed edit) = true
-is_of_install (tables_failed last asked) = true
-is_of_install other = false
-
--- the installs of its own, and those that failed
-abbrev pub installs_of : Participant → List Event
-installs_of p = filter is_of_install p.past
-
--- an event of an edit that was installed
-abbrev pub is_of_edit : Event → Bool
-is_of_edit (event.installed edit compacts) = true
-is_of_edit (event.renewed edit) = true
-is_of_edit other = false
+-- ---- the devices
 
 -- The manifest's device was not called: its count and its moments are as they were.
 abbrev pub IsUncalled : VersionSetState → VersionSetState → Type 0
 IsUncalled before after = after.set.manifest ≡ before.set.manifest
 
--- The tables, and what their devices show of themselves, are as they were; and what a crash leaves of these is as the table says.
+-- The tables, and what their devices show of themselves, are as they were; and what a crash leaves of these is as the state says.
 abbrev pub AreSameTables : VersionSetState → VersionSetState → Type 0
 AreSameTables before after = (after ≡ before) × EditsStand before
 
@@ -197,32 +181,27 @@ abbrev pub KeepsOnce : {D : Type 0} → SharedState D → SeatState → SeatStat
 KeepsOnce z old new = (e : Installed) × Finds z old new e × TablesBecame z e e AreSameTables
 
 -- ... and a compaction, which takes them in each round, unless it wants memory before it does: each time that it took them. That there
--- was no other time no clause tells; but a device that was called then leaves its mark, as below.
+-- was no other time no clause tells; but a device that was called then leaves its mark.
 abbrev pub KeepsEach : {D : Type 0} → SharedState D → SeatState → SeatState → Type 0
 KeepsEach z old new = (taken : List Installed) × ((e : Installed) → IsIn e taken → GivesBack AreSameTables z old new e)
 
--- the seat installed no edit, and no device failed it
-abbrev pub MadeNoInstall : Participant → Participant → Type 0
-MadeNoInstall old new = installs_of new ≡ installs_of old
+-- its marks are that a device of the tables failed, and then these
+abbrev pub FailedOnce : List Event → Participant → Participant → Type 0
+FailedOnce others old new = (last : InstalledEdit) × (asked : Option InstalledEdit) × LeftMarks (tables_failed last asked ∷ others) old new
 
--- one install of its own failed, and it made no other
-abbrev pub FailedOnce : Participant → Participant → Type 0
-FailedOnce old new = (last : InstalledEdit) × (asked : Option InstalledEdit) × (installs_of new ≡ installs_of old ++ tables_failed last asked ∷ [])
-
--- it did not install an edit, and remember no other install
+-- the seat installed no edit
 abbrev pub InstalledNone : Participant → Participant → Type 0
-InstalledNone old new = (made : Event) → is_of_edit made ≡ true → installs_of new ≡ installs_of old ++ made ∷ [] → ⊥
+InstalledNone old new = filter is_install new.past ≡ filter is_install old.past
 
 -- this is so, unless the answer is that a device failed
 abbrev pub UnlessFault : Type 0 → MaintError → Type 0
 UnlessFault So TableFault = Unit {0}
 UnlessFault So other = So
 
--- What a refused call did with the devices. Each call of one leaves its mark: who makes it holds the tables turn, and can give that only
--- with the tables as the machine has them; and a table that was written can't be forgotten, but is installed, or given up behind a
--- closed log. By then an edit whose append answered Ok is in its past, and so is a device that failed. Where the call says that one failed, it made no more than that install, and it is in its past; it says so too where
--- the table could not be written, and the manifest was not called. Where it says anything else, want of memory too, it appended no edit,
--- and no device was called.
+-- What a refused call did with the devices. Where it says that one failed, that is its only mark: it made no more than that install, or it
+-- could not write the table, and the manifest was not called. Where it says anything else, want of memory too, it left none. So it called
+-- no device, also not behind a log that had failed before: its append leaves numbers of its own, or that it failed; its segment a renewed
+-- edit, or that the log was stopped; and its table an edit, or that this failed, or the log.
 abbrev pub RefusesBeforeDevices : (Keeps : Type 0) → SeatState → MaintError → SeatState → Type 0
-RefusesBeforeDevices Keeps old TableFault new = FailedOnce old.knows.participant new.knows.participant
-RefusesBeforeDevices Keeps old other new = MadeNoInstall old.knows.participant new.knows.participant × Keeps
+RefusesBeforeDevices Keeps old TableFault new = FailedOnce [] old.knows.participant new.knows.participant
+RefusesBeforeDevices Keeps old other new = CalledNoDevice old.knows.participant new.knows.participant × Keeps

@@ -22,7 +22,7 @@ use Rattle.wp_wal.specs.Spelling.{IsLogAt}
 use Rattle.wp_wal.specs.Wal.{LeavesCut, LosesNothingAt}
 use Rattle.wp_core.specs.Effects.{with_failed}
 use Rattle.wp_core.specs.States.{WriteState, Installed, writes, installed}
-use Rattle.wp_core.specs.Views.{frozen_stay, tables_failed, log_failed, log_stopped, stopped}
+use Rattle.wp_core.specs.Views.{tables_failed, log_failed, log_stopped, stopped}
 use Rattle.wp_core.specs.Views as event
 use Rattle.wp_core.specs.World.{Participant}
 use Rattle.wp_parts.specs.VersionSet.{VersionSetState}
@@ -30,17 +30,18 @@ use Rattle.wp_parts.specs.Installs.{SurvivesInstall}
 use Rattle.wp_parts.specs.Log.{LogState, IsLog, IsPlaceOf, IsSegmentOf}
 use Rattle.wp_parts.specs.Parts.{LogStands, log_first, set_first}
 use Rattle.wp_shared.specs.Calls.{Continues, with_events}
+use Rattle.wp_shared.specs.Devices.{CalledNoDevice, LeftMarks}
 use Rattle.wp_shared.specs.Seats.{SharedState, SeatState}
 use Rattle.wp_shared.specs.Turns.{HoldsTurn}
 use Rattle.wp_maint.specs.declared.renewed.Renewed.{Renewed}
 use Rattle.wp_maint.specs.declared.renewed.RenewError.{RenewError}
 use Rattle.wp_maint.specs.declared.renewed.RenewError.TheVariants.{Memory, TablesStopped, Stopped, Nothing, TableFault, LogFault}
-use Rattle.wp_maint.specs.Calls.{AreSameTables, FailedOnce, Finds, found_by, HasFault, HeldContent, HeldTables, IsStopped, IsUncalled, MadeNoInstall, SawWhole, TablesBecame}
+use Rattle.wp_maint.specs.Calls.{AreSameTables, FailedOnce, Finds, found_by, HasFault, HeldContent, HeldTables, IsStopped, IsUncalled, SawWhole, TablesBecame}
 use Rattle.wp_maint.specs.Moments.{LeftSince, OpensFromBase, OpensToSuch}
 
 -- ---- what the seat holds
 
--- The seat holds the write turn with this table of the log, taken last, and beneath it the tables turn with these tables; both are the
+-- The seat holds the write turn with this state of the log, taken last, and beneath it the tables turn with these tables; both are the
 -- store's.
 pub record HoldsBoth {D : Type 0} (z : SharedState D) (s : SeatState) (e : VersionSetState) (log : LogState) (table : WriteState) : Type 0 where
   pub turn : HoldsTurn z s (writes table) (installed e.state ∷ []) (5 ∷ [])
@@ -49,7 +50,7 @@ pub record HoldsBoth {D : Type 0} (z : SharedState D) (s : SeatState) (e : Versi
 
 -- ---- the devices
 
--- The store's log on its device, with the one table and then with the other: as `TablesBecame` says it of the tables.
+-- The store's log on its device, with the one state and then with the other: as `TablesBecame` says it of the tables.
 pub record LogBecame {D : Type 0} (z : SharedState D) (t next : WriteState) (So : LogState → LogState → Type 0) : Type 0 where
   pub before : LogState
   pub after : LogState
@@ -117,7 +118,7 @@ OpensUnmoved Spells Names e log =
 
 -- ---- refusals
 
--- The log, and what its device shows of itself, is as it was; and what a crash leaves of it is as its table says.
+-- The log, and what its device shows of itself, is as it was; and what a crash leaves of it is as its state says.
 abbrev pub IsSameLog : LogState → LogState → Type 0
 IsSameLog before after = (after ≡ before) × LogStands before
 
@@ -206,11 +207,11 @@ pub record HasRenewed {D : Type 0} (Goes : Participant → Type 0) (z : SharedSt
   pub carried : done.carried ≡ length (undecided new.knows.participant.seen)
   pub place : ℕ
   pub left : HeldTables z old new new.knows.participant.past (record e { last = after_renewal new.knows.participant.seen place e.last })
-  pub state : TablesBecame z e (record e { last = after_renewal new.knows.participant.seen place e.last })
+  pub tables : TablesBecame z e (record e { last = after_renewal new.knows.participant.seen place e.last })
       (λ before after. after.parts ≡ new_parts (sorted_of (unflushed new.knows.participant.seen e.last)) ++ before.parts)
-  pub survives : SurvivesInstall state.before state.after (after_renewal new.knows.participant.seen place e.last)
+  pub survives : SurvivesInstall tables.before tables.after (after_renewal new.knows.participant.seen place e.last)
   pub log : LogBecame z busy.unclosed.0 (record busy.unclosed.0 { segment = record { place = place; base = length new.knows.participant.seen }; next = None })
-      (λ before after. SurvivesBeside before after (Some after.state.segment) × NamesItsSegment state.before state.after before after (Some (after_renewal new.knows.participant.seen place e.last)))
+      (λ before after. SurvivesBeside before after (Some after.state.segment) × NamesItsSegment tables.before tables.after before after (Some (after_renewal new.knows.participant.seen place e.last)))
   pub goes_on : Goes (with_events (found_by z old new e found ∷ event.renewed (after_renewal new.knows.participant.seen place e.last) ∷ []) old.knows.participant)
 
 -- what it answers and leaves where it finds these tables
@@ -240,7 +241,9 @@ BeforeDevices So TableFault = Unit {0}
 BeforeDevices So LogFault = Unit {0}
 BeforeDevices So other = So
 
--- What a refused renewal did with the manifest's device: as a refused flush, also where the log's device failed.
+-- What a refused renewal did with the devices: as a refused flush. Where the log's device failed that is its only mark, and the manifest's
+-- was not called.
 abbrev pub IsRefusedBefore : (Leaves : Type 0) → SeatState → RenewError → SeatState → Type 0
-IsRefusedBefore Leaves old TableFault new = FailedOnce old.knows.participant new.knows.participant
-IsRefusedBefore Leaves old other new = MadeNoInstall old.knows.participant new.knows.participant × Leaves
+IsRefusedBefore Leaves old TableFault new = FailedOnce (log_stopped ∷ []) old.knows.participant new.knows.participant
+IsRefusedBefore Leaves old LogFault new = LeftMarks (log_failed [] ∷ []) old.knows.participant new.knows.participant × Leaves
+IsRefusedBefore Leaves old other new = CalledNoDevice old.knows.participant new.knows.participant × Leaves

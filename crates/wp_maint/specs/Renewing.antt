@@ -1,6 +1,5 @@
 -- The stages of a renewal, while the seat holds the tables turn and the write turn.
 use Rattle.std.specs.Prelude.{◌≡◌, ◌≢◌, true, false, [], ◌∷◌, Option, Some, None, IfErr, Result, Ok, Err}
-use Rattle.wp_model.specs.declared.segment.Segment.{Segment}
 use Rattle.wp_model.specs.Flushed.{InstalledEdit, IsEditCovered}
 use Rattle.wp_outside.specs.Faults.{Rose}
 use Rattle.wp_tableset.specs.Changes.{parts_after}
@@ -8,7 +7,7 @@ use Rattle.wp_tableset.specs.declared.gone.Gone.TheVariants as gone
 use Rattle.wp_wal.specs.Segment.{WrittenState}
 use Rattle.wp_core.specs.Effects.{with_failed}
 use Rattle.wp_core.specs.States.{installed, writes}
-use Rattle.wp_core.specs.Views.{frozen_stay, log_failed, log_stopped, tables_failed, tables_stay}
+use Rattle.wp_core.specs.Views.{log_failed, log_stopped, tables_failed}
 use Rattle.wp_core.specs.Views as event
 use Rattle.wp_core.specs.World.{Participant, World}
 use Rattle.wp_rule.specs.Knows.{KnowsTables}

@@ -23,7 +23,8 @@ use wp_shared::{ReadyInstall, Seat, Shared, Stock, VersionSet};
 use wp_table::Table;
 
 /// Writes the table of a ready edit, if it has one, and makes the edit the last one, with the log's segment as it is.
-fn write_edit<D: Disk>(
+fn write_edit<D: Disk + Drop>(
+    seat: &Seat<D>,
     edits: &mut VersionSet<D>,
     edit: ReadyInstall,
 ) -> Result<Option<Arc<Table>>, Failed>
@@ -39,7 +40,7 @@ fn write_edit<D: Disk>(
     ensures first { edits.new.first ≡ edits.old.first }
 {
     let segment = edits.segment();
-    let written = edits.write_table(edit)?;
+    let written = edits.write_table(edit, seat.words())?;
     edits.install(written, segment)
 }
 
@@ -61,7 +62,7 @@ pub fn install<D: Disk + Drop>(
 {
     edits.devices_agree();
     let gone = edit.gone();
-    match write_edit(edits, edit) {
+    match write_edit(seat, edits, edit) {
         Ok(table) => {
             edits.devices_agree();
             remember_install(store, seat, edits, gone);

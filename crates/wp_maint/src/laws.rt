@@ -50,7 +50,7 @@ pub fn renewals_open_throughout<D>()
         → NamesItsSegment old new log moved asked → old.set.manifest.log.id < 2 ^ 32 → log.wal.id ≡ old.set.manifest.log.id
         → (w : World) → Reaches w → w.installed ≡ old.state → w.writes ≡ log.state → OpensInRenewal old new log moved asked }
     ensures renewed { (z : SharedState D) (old new : SeatState) (e : Installed) → IsOneStore z.opened z.first → (done : Renewed) (k : HasRenewed (Continues z old new) z old new e done)
-        → OpensInRenewal k.state.before k.state.after k.log.before k.log.after (Some (after_renewal new.knows.participant.seen k.place e.last)) }
+        → OpensInRenewal k.tables.before k.tables.after k.log.before k.log.after (Some (after_renewal new.knows.participant.seen k.place e.last)) }
     ensures broken_off { (z : SharedState D) (old new : SeatState) (e : Installed) → IsOneStore z.opened z.first → (k : HasBrokenOff (Continues z old new) z old new e)
         → OpensInRenewal k.fault.before k.fault.after k.log.before k.log.after k.asked }
     ensures log_fault { (z : SharedState D) (old new : SeatState) (e : Installed) → IsOneStore z.opened z.first → (k : HasLogFault (Continues z old new) z old new e)

@@ -1,4 +1,4 @@
--- The tables once a transaction's name is free, with each of its keys.
+-- The locks once a transaction's name is free, with each of its keys.
 use Rattle.std.proofs.Common.{◌≡◌, ℕ, Bool, true, false, true≢false, cond, not, List, [], ◌∷◌, map, refl, sym, ap, ◌∙◌, Option, Some, None, is_some}
 use Rattle.std.specs.Prelude.{unwrap_or, if◌then◌else◌}
 use Rattle.std.specs.FinSet as set
@@ -27,7 +27,7 @@ use Rattle.wp_open_txns.specs.Txn.{OpenState, HasLocked}
 
 -- ---- the keys of a batch are those of its transaction
 
--- the seat, which is the participant that it was, locked just the keys that the changes change, and the tables have just those for it
+-- the seat, which is the participant that it was, locked just the keys that the changes change, and the locks have just those for it
 pub just_changed : (old s : SeatState) (t : LockState) (x : OpenState) → s.knows.participant ≡ old.knows.participant → HasLocked old x
     → ((key : List ℕ) → is_held_by t (Txn x.name) key ≡ set.contains (transaction_in s.knows.participant x.name).locked key) → (key : List ℕ) → is_held_by t (Txn x.name) key ≡ is_changed x.batch key
 just_changed old s t x same h held key =
@@ -52,7 +52,7 @@ at_without (change ∷ changes) keys q = at_without changes (finite.remove keys 
     by true same = neither (is_changed changes q) (finite.get (finite.remove keys (key_of change)) q) (at_removed keys (key_of change) q (sym ((bytes_eq-Decides (key_of change) q).0 same)))
     by false apart = ap rest (else_removed keys (key_of change) q (λ e. true≢false (sym ((bytes_eq-Decides (key_of change) q).1 (sym e)) ∙ apart)))
 
--- ---- the tables
+-- ---- the locks
 
 turned : (b : Bool) (o : Option Holder) → cond b None o ≡ cond (not b) o None
 turned true o = refl

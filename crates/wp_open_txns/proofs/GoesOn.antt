@@ -40,11 +40,11 @@ use Rattle.wp_open_txns.proofs.Made.{locks_are, not_had}
 
 -- ---- the turn that was taken last
 
--- the seat holds its table
+-- the seat holds its state
 pub held_last : {D : Type 0} {z : SharedState D} {s : SeatState} {table : Content} {others : List Content} {beneath : List ℕ} → HoldsTurn z s table others beneath → IsIn table s.knows.held
 held_last {table = table} h = subst (IsIn table) (sym h.held) (inl refl)
 
--- its actor changed, and has these tables in place of those of the locks turn
+-- its actor changed, and has this state in place of that of the locks turn
 pub holds_tables : {D : Type 0} {z : SharedState D} {s r : SeatState} {t : LockState} {others : List Content} {beneath : List ℕ} (b : Actor) (u m : LockState) → HoldsTurn z s (locks t) others beneath → m ≡ u → r ≡ seat_of s b → b.live ≡ s.knows.live
     → b.held ≡ held_with s.knows.held (locks u) → HoldsTurn z r (locks m) others beneath
 holds_tables {others = others} b u m h same is live held = record {
@@ -64,11 +64,11 @@ holds_still {others = others} b m h same is live held = record {
   turns = ap (λ (x : SeatState). x.turns) is ∙ h.turns;
 }
 
--- the tables as they are lent
+-- the locks as they are lent
 pub lent_as : {D : Type 0} {z : SharedState D} {old s : SeatState} {t lent : LockState} → lent ≡ t → Taken z old s (locks t) → Taken z old s (locks lent)
 lent_as {z = z} {old = old} {s = s} same k = subst (λ (x : LockState). Taken z old s (locks x)) (sym same) k
 
--- ---- what the tables held
+-- ---- what the locks held
 
 -- the seat holds them as it took them
 module _ {D : Type 0} (z : SharedState D) (old s : SeatState) (t : LockState) (k : Taken z old s (locks t)) where
@@ -113,7 +113,7 @@ name_left t m name live is = is ∙ ap (λ (b : Bool). record t { names = if b t
 
 -- ---- under the turn
 
--- the seat with the turn and its tables too
+-- the seat with the turn and its state too
 abbrev pub with_locks : LockState → SeatState → SeatState
 with_locks t s = record s { knows = record s.knows { held = locks t ∷ s.knows.held }; turns = turn_index locks_turn ∷ s.turns }
 
@@ -201,7 +201,7 @@ module _ {D : Type 0} (z : SharedState D) (old : SeatState) (t : LockState) (s :
       back (IsApartFrom name) (f (with_locks t old).knows) r new (under f r without_it.seat) gave refl refl ([], sym (append-nil old.knows.participant.seen))
       (λ fact apart there. without_it.notes fact apart (subst (λ (x : SeatState). IsIn fact x.knows.notes) (sym took) there))
 
-  -- it holds these tables, in which its transaction is gone
+  -- it holds this state, in which its transaction is gone
   pub without_holds : IsFree z.table old → (u m : LockState) (name : List ℕ) (r : SeatState) → IsWithout s r u name → m ≡ u → HoldsTurn z r (locks m) [] []
   without_holds free u m name r without_it same = holds_tables (record (giving_up u name s.knows) { notes = r.knows.notes }) u m (holds_alone free k) same without_it.seat refl refl
 

@@ -1,5 +1,5 @@
 -- The actor that steps beside a load leave.
-use Rattle.std.proofs.Common.{◌≡◌, ℕ, ◌≤◌, true, false, true≢false, List, [], ◌∷◌, length, refl, sym, subst, ap, ◌∙◌, Option, Some, None, is_some}
+use Rattle.std.proofs.Common.{◌≡◌, ℕ, ◌≤◌, Bool, ◌||◌, true, false, true≢false, List, [], ◌∷◌, length, refl, sym, subst, ap, ◌∙◌, Option, Some, None, is_some}
 use Rattle.std.specs.Prelude.{unwrap_or}
 use Rattle.std.specs.FinSet as set
 use Rattle.std.specs.FinMap as finite
@@ -17,7 +17,7 @@ use Rattle.wp_locks.specs.Locks.{is_free_for}
 use Rattle.wp_model.specs.Holder.{is_same, is_same_txn}
 use Rattle.wp_core.specs.Lists.{IsIn}
 use Rattle.wp_core.specs.States.{locks}
-use Rattle.wp_core.specs.Views.{Account, Fact, has_left, undecided_at, prior_values, unprepared, direct_free, live_listed}
+use Rattle.wp_core.specs.Views.{Account, Fact, has_left, undecided_at, prior_values, unprepared, direct_free, unchanged, locks_stay, live_listed}
 use Rattle.wp_core.specs.World.{Transaction, Actor, World}
 use Rattle.wp_core.specs.Steps.{Step, load_published, claim_name, find_holder, lock_key, set_batch, free_transaction, leave_name, take_name, tell, hear, note}
 use Rattle.wp_core.specs.Changes.{sees, is_held_by, keys_of_holder, with_name, without_transaction}
@@ -36,7 +36,7 @@ use Rattle.wp_rule.specs.Moves.{MayMake, Moved, first_of, actor_after, world_aft
 use Rattle.wp_rule.specs.Accounts.{IsHolderIn, account_of}
 use Rattle.wp_rule.specs.Knows.{Noted}
 use Rattle.wp_rule.proofs.Forgets.{EndsNothing, forgets_nothing, load_ends, note_ends}
-use Rattle.wp_rule.proofs.Knows.{at_sound, seen_is}
+use Rattle.wp_rule.proofs.Knows.{at_sound, seen_is, noted_is}
 use Rattle.wp_rule.proofs.MayBeMade.{known_made, finds_holder}
 use Rattle.wp_rule.proofs.Needed.{has_locks, has_writes, undecided_of}
 use Rattle.wp_rule.proofs.Outlasting.{outlasts}
@@ -68,25 +68,25 @@ pub all_made : (p : Place) (steps : World → List Step) (so : World → Type 0)
 all_made p steps so a b m ends_none = m.actor ∙ none_forgotten (steps m.world) m.world p.by a ends_none
 
 claim_ends : (name : List ℕ) → EndsNothing (claim_name name)
-claim_ends name = record { guard = λ turn. refl; place = λ words place. refl; words = refl; delayed_flag = refl; old_flag = refl; pending = refl; adds = refl; takes = refl; prepared = refl; unprepared = refl; delays = refl; transaction = λ history name. refl; direct = refl; moves = refl; replaces = refl; installing = refl }
+claim_ends name = record { guard = λ turn. refl; place = λ words place. refl; words = refl; delayed_flag = refl; old_flag = refl; pending = refl; adds = refl; takes = refl; prepared = refl; unprepared = refl; delays = refl; transaction = λ history name. refl; changes = λ history key. refl; direct = refl; moves = refl; replaces = refl; installing = refl }
 
 find_ends : (key : Option (List ℕ)) (holder : Holder) (account : Account) → EndsNothing (find_holder key holder account)
-find_ends key holder account = record { guard = λ turn. refl; place = λ words place. refl; words = refl; delayed_flag = refl; old_flag = refl; pending = refl; adds = refl; takes = refl; prepared = refl; unprepared = refl; delays = refl; transaction = λ history name. refl; direct = refl; moves = refl; replaces = refl; installing = refl }
+find_ends key holder account = record { guard = λ turn. refl; place = λ words place. refl; words = refl; delayed_flag = refl; old_flag = refl; pending = refl; adds = refl; takes = refl; prepared = refl; unprepared = refl; delays = refl; transaction = λ history name. refl; changes = λ history key. refl; direct = refl; moves = refl; replaces = refl; installing = refl }
 
 lock_ends : (name : List ℕ) (x : Transaction) (key : List ℕ) → EndsNothing (lock_key name x key)
-lock_ends name x key = record { guard = λ turn. refl; place = λ words place. refl; words = refl; delayed_flag = refl; old_flag = refl; pending = refl; adds = refl; takes = refl; prepared = refl; unprepared = refl; delays = refl; transaction = λ history name. refl; direct = refl; moves = refl; replaces = refl; installing = refl }
+lock_ends name x key = record { guard = λ turn. refl; place = λ words place. refl; words = refl; delayed_flag = refl; old_flag = refl; pending = refl; adds = refl; takes = refl; prepared = refl; unprepared = refl; delays = refl; transaction = λ history name. refl; changes = λ history key. refl; direct = refl; moves = refl; replaces = refl; installing = refl }
 
 batch_ends : (name : List ℕ) (x : Transaction) (batch : List Change) → EndsNothing (set_batch name x batch)
-batch_ends name x batch = record { guard = λ turn. refl; place = λ words place. refl; words = refl; delayed_flag = refl; old_flag = refl; pending = refl; adds = refl; takes = refl; prepared = refl; unprepared = refl; delays = refl; transaction = λ history name. refl; direct = refl; moves = refl; replaces = refl; installing = refl }
+batch_ends name x batch = record { guard = λ turn. refl; place = λ words place. refl; words = refl; delayed_flag = refl; old_flag = refl; pending = refl; adds = refl; takes = refl; prepared = refl; unprepared = refl; delays = refl; transaction = λ history name. refl; changes = λ history key. refl; direct = refl; moves = refl; replaces = refl; installing = refl }
 
 take_ends : (name : List ℕ) (q : ℕ) → EndsNothing (take_name name q)
-take_ends name q = record { guard = λ turn. refl; place = λ words place. refl; words = refl; delayed_flag = refl; old_flag = refl; pending = refl; adds = refl; takes = refl; prepared = refl; unprepared = refl; delays = refl; transaction = λ history name. refl; direct = refl; moves = refl; replaces = refl; installing = refl }
+take_ends name q = record { guard = λ turn. refl; place = λ words place. refl; words = refl; delayed_flag = refl; old_flag = refl; pending = refl; adds = refl; takes = refl; prepared = refl; unprepared = refl; delays = refl; transaction = λ history name. refl; changes = λ history key. refl; direct = refl; moves = refl; replaces = refl; installing = refl }
 
 tell_ends : (label : List ℕ) → EndsNothing (tell label)
-tell_ends label = record { guard = λ turn. refl; place = λ words place. refl; words = refl; delayed_flag = refl; old_flag = refl; pending = refl; adds = refl; takes = refl; prepared = refl; unprepared = refl; delays = refl; transaction = λ history name. refl; direct = refl; moves = refl; replaces = refl; installing = refl }
+tell_ends label = record { guard = λ turn. refl; place = λ words place. refl; words = refl; delayed_flag = refl; old_flag = refl; pending = refl; adds = refl; takes = refl; prepared = refl; unprepared = refl; delays = refl; transaction = λ history name. refl; changes = λ history key. refl; direct = refl; moves = refl; replaces = refl; installing = refl }
 
 hear_ends : (label : List ℕ) (n : ℕ) → EndsNothing (hear label n)
-hear_ends label n = record { guard = λ turn. refl; place = λ words place. refl; words = refl; delayed_flag = refl; old_flag = refl; pending = refl; adds = refl; takes = refl; prepared = refl; unprepared = refl; delays = refl; transaction = λ history name. refl; direct = refl; moves = refl; replaces = refl; installing = refl }
+hear_ends label n = record { guard = λ turn. refl; place = λ words place. refl; words = refl; delayed_flag = refl; old_flag = refl; pending = refl; adds = refl; takes = refl; prepared = refl; unprepared = refl; delays = refl; transaction = λ history name. refl; changes = λ history key. refl; direct = refl; moves = refl; replaces = refl; installing = refl }
 
 -- the seat stands in the world that the steps led to
 pub stands_after : {D : Type 0} (z : SharedState D) (old new : SeatState) (steps : World → List Step) (so : World → Type 0) → new.by ≡ old.by → Moved (place_at z old.by) steps so old.knows new.knows → (w : World) × Stands z new w
@@ -101,7 +101,7 @@ there_is (Some y) x is = refl
 pub has_its : (a : Actor) (name : List ℕ) → is_some (finite.get a.participant.transactions name) ≡ true → HasTransaction a name (transaction_in a.participant name)
 has_its a name there = there_is (finite.get a.participant.transactions name) no_changes there
 
--- tables that the actor holds are the world's
+-- a state that the actor holds is the world's
 pub locks_are : (p : Place) (a : Actor) (w : World) (t : LockState) → IsAt p a w → IsIn (locks t) a.held → w.locks ≡ t
 locks_are p a w t k held = (has_locks p a w k (λ l. l ≡ t) (record { state = t; held = held; so_is = refl })).1
 
@@ -147,8 +147,8 @@ not_free None name free other = refl
 not_free (Some holder) name free other = absurd (other (ap (λ (h : Holder). Some h) (same_txn holder name free)))
 
 pub may_lock : (p : Place) (a : Actor) (t : LockState) (name key : List ℕ) → is_some (finite.get a.participant.transactions name) ≡ true → set.contains (transaction_in a.participant name).locked key ≡ false
-    → IsIn (locks t) a.held → is_free_for (finite.get t.keys key) (Txn name) ≡ true → MayMake p a (λ w. lock_key name (transaction_in a.participant name) key ∷ [])
-may_lock p a t name key there unlocked held free w k =
+    → IsIn (unprepared name) a.notes → IsIn (locks t) a.held → is_free_for (finite.get t.keys key) (Txn name) ≡ true → MayMake p a (λ w. lock_key name (transaction_in a.participant name) key ∷ [])
+may_lock p a t name key there unlocked noted held free w k =
     let h = has_locks p a w k (λ l. is_free_for (finite.get l.keys key) (Txn name) ≡ true) (record { state = t; held = held; so_is = free }) in
     let has = has_its a name there in (
       (tt, tt),
@@ -158,6 +158,7 @@ may_lock p a t name key there unlocked held free w k =
           has,
           not_free (finite.get w.locks.keys key) name h.1 (λ own.
               true≢false (sym ((at_sound p a w k).locks.keys_known key name own p.by 0 (owner_of a.participant) (mine owner_of w.actors p.by a a k.there refl) (transaction_in a.participant name) has) ∙ unlocked)),
+          (noted_is p a w (unprepared name) k noted).is_so.1,
         ),
         tt,
       ),
@@ -203,6 +204,8 @@ free_ends history words name (undecided_at other p) e = e.1
 free_ends history words name (prior_values other p batch) e = e.1
 free_ends history words name (unprepared other) e = e.1
 free_ends history words name (direct_free key) e = refl
+free_ends history words name (unchanged other key n) e = ap (λ (t : Bool). t || false) e.1
+free_ends history words name (locks_stay other p keys) e = refl
 free_ends history words name (live_listed floor listed) e = refl
 free_ends history words name (has_left p) e = refl
 free_ends history words name other e = let n = e.0 in absurd cc
@@ -212,7 +215,7 @@ leave_ends : (history : List Entry) (words : ℕ) (name : List ℕ) (fact : Fact
 leave_ends history words name (undecided_at other p) = refl
 leave_ends history words name other = refl
 
--- who holds a key, as the tables have it, and as the test says
+-- who holds a key, as the locks have it, and as the test says
 held_so : (name : List ℕ) (o : Option Holder) → option_map_or (is_same (Txn name)) o false ≡ true → o ≡ Some (Txn name)
 held_so name None h = absurd cc
 held_so name (Some (Client client)) h = absurd cc
@@ -237,7 +240,7 @@ module _ (p : Place) (so : World → Type 0) (s new : SeatState) (same : (new.ta
             subst (λ (x : Actor). Noted x fact) (sym m.actor) (outlasts fact (free_transaction name ∷ []) m.world p.by s.knows there ((λ x. x), free_ends m.world.writes.history (length m.world.cache) name fact stays, tt));
       }
 
-  -- the tables had just those keys for it that it locked
+  -- the locks had just those keys for it that it locked
   pub locked_are_held : is_some (finite.get s.knows.participant.transactions name) ≡ true → Moved p (λ w. free_transaction name ∷ []) so s.knows new.knows → (key : List ℕ)
       → is_held_by t (Txn name) key ≡ set.contains (transaction_in s.knows.participant name).locked key
   locked_are_held there m key =
@@ -308,7 +311,7 @@ module _ (p : Place) (so : World → Type 0) (s new : SeatState) (same : (new.ta
   unfolding heard_it
   heard_all n r there m = sym (ap (λ (x : SeatState). x.knows.participant.seen) (heard_it n r there m).4)
 
--- a seat that holds the locks' tables holds the world's
+-- a seat that holds the locks holds the world's
 tables_held : (p : Place) (a : Actor) (w : World) (t : LockState) → IsAt p a w → IsIn (locks t) a.held → IsIn (locks w.locks) a.held
 tables_held p a w t k held = subst (λ (l : LockState). IsIn (locks l) a.held) (sym (locks_are p a w t k held)) held
 

@@ -136,7 +136,7 @@ module _ {D : Type 0} (z : SharedState D) (old : SeatState) (d : WriteState) (s 
       log_held : IsIn (writes d) s2.knows.held
       log_held = subst (λ (x : SeatState). IsIn (writes d) x.knows.held) (sym k2.seat) (inr log_last)
 
-      -- as it had taken both, the tables were these, and the history that of the log
+      -- as it had taken both, the locks were these, and the history that of the log
       abbrev found_then : World
       found_then = k2.stands.0
 

@@ -1,4 +1,4 @@
--- What the steps of these calls make of the seat's actor, which holds the locks turn with these tables.
+-- What the steps of these calls make of the seat's actor, which holds the locks turn with this state.
 use Rattle.std.specs.Prelude.{ℕ, List, [], ◌∷◌, length, Option, Some, None, unwrap_or}
 use Rattle.std.specs.FinSet as set
 use Rattle.std.specs.FinMap as finite
@@ -10,12 +10,12 @@ use Rattle.wp_model.specs.declared.holder.Holder.TheVariants.{Txn, Client}
 use Rattle.wp_model.specs.History.{batch_at, named}
 use Rattle.wp_shared.specs.Notes.{with_note}
 use Rattle.wp_core.specs.States.{locks}
-use Rattle.wp_core.specs.Views.{claimed, took, locked, told, heard, found, stopped, unprepared, undecided_at, direct_free}
+use Rattle.wp_core.specs.Views.{claimed, took, locked, told, heard, found, stopped, based_at, unprepared, undecided_at, direct_free}
 use Rattle.wp_core.specs.World.{Transaction, Participant, Actor}
 use Rattle.wp_core.specs.Changes.{held_with, keys_of_holder, sees, remembers, has_transaction, has_no_transaction, has_direct, with_name, with_key, with_label}
 use Rattle.wp_rule.specs.Accounts.{account_of}
 
--- it holds these tables in place of those that it held
+-- it holds this state in place of the one that it held
 abbrev pub holding : LockState → Actor → Actor
 holding t a = record a { held = held_with a.held (locks t) }
 
@@ -47,7 +47,7 @@ with_locked t name key a = holding (with_key t key (Txn name)) (remembers (has_t
 abbrev pub with_direct : LockState → List ℕ → Actor → Actor
 with_direct t key a = with_note (direct_free key) (holding (with_key t key (Client a.participant.client)) (remembers (has_direct a (Some key)) (locked key (Client a.participant.client))))
 
--- its direct write is over, and the tables are these
+-- its direct write is over, and the state is this
 abbrev pub ending_direct : LockState → Actor → Actor
 ending_direct t a = holding t (has_direct a None)
 
@@ -55,11 +55,15 @@ ending_direct t a = holding t (has_direct a None)
 abbrev pub with_stopped : ℕ → Actor → Actor
 with_stopped n a = remembers a (stopped n)
 
+-- it found the log with this base, when so many entries were published
+abbrev pub with_base : ℕ → ℕ → Actor → Actor
+with_base n base a = remembers a (based_at n base)
+
 -- its transaction has these changes
 abbrev pub with_batch : List ℕ → List Change → Actor → Actor
 with_batch name batch a = has_transaction a name (record (transaction_in a.participant name) { batch = batch })
 
--- its transaction is gone, and the tables are these
+-- its transaction is gone, and the state is this
 abbrev pub giving_up : LockState → List ℕ → Actor → Actor
 giving_up t name a = holding t (has_no_transaction a name)
 

@@ -43,7 +43,7 @@ pub record StoodWithLocks {D : Type 0} (z : SharedState D) (s : SeatState) (w : 
   pub made : actor.made ≡ s.knows.made
   pub joined : actor.joined ≡ s.knows.joined
 
--- the locks' tables were so in such a world: as a call found them, or as it left them
+-- the locks were so in such a world: as a call found them, or as it left them
 pub record LocksWere {D : Type 0} (z : SharedState D) (s : SeatState) (So : LockState → Type 0) : Type 0 where
   pub world : World
   pub stood : StoodWithLocks z s world
@@ -53,8 +53,8 @@ pub record LocksWere {D : Type 0} (z : SharedState D) (s : SeatState) (So : Lock
 abbrev pub IsFreeName : List ℕ → LockState → Type 0
 IsFreeName name t = (finite.get t.names name ≡ None) × ((key : List ℕ) → finite.get t.keys key ≡ Some (Txn name) → ⊥)
 
--- In a world in which the seat stood so, the tables had this holder of the key, or else of a live name. The seat remembers that
--- it found it, and how these tables account for it, when so many entries were published, no fewer than it had seen.
+-- In a world in which the seat stood so, the locks had this holder of the key, or else of a live name. The seat remembers that
+-- it found it, and how these account for it, when so many entries were published, no fewer than it had seen.
 pub record FindsWhere {D : Type 0} (Stood : World → Type 0) (z : SharedState D) (old new : SeatState) (key : Option (List ℕ)) (holder : Holder) : Type 0 where
   pub world : World
   pub stood : Stood world
@@ -63,7 +63,7 @@ pub record FindsWhere {D : Type 0} (Stood : World → Type 0) (z : SharedState D
   pub reached : length old.knows.participant.seen ≤ published
   pub goes_on : Continues z old new (with_events (found key holder (length old.knows.participant.seen) (account_of old.knows.participant world.locks published key holder) ∷ []) old.knows.participant)
 
--- the tables as the call found them
+-- the locks as the call found them
 abbrev pub Finds : {D : Type 0} → SharedState D → SeatState → SeatState → Option (List ℕ) → Holder → Type 0
 Finds z old new key holder = FindsWhere (StoodWithLocks z old) z old new key holder
 

@@ -20,7 +20,7 @@ use Rattle.wp_open_txns.specs.Actors.{giving_up, ending_direct, with_taken}
 abbrev pub IsApartFrom : List ℕ → Fact → Type 0
 IsApartFrom name fact = (guarded_by fact ≡ None) × (is_about (Some name) fact ≡ false)
 
--- its transaction of this name is gone, and the tables are these now; it knows no more about the transaction
+-- its transaction of this name is gone, and the state is this now; it knows no more about the transaction
 pub record IsWithout (old new : SeatState) (t : LockState) (name : List ℕ) : Type 0 where
   pub seat : new ≡ seat_of old (record (giving_up t name old.knows) { notes = new.knows.notes })
   pub notes : (fact : Fact) → IsApartFrom name fact → IsIn fact old.knows.notes → IsIn fact new.knows.notes
@@ -34,12 +34,12 @@ is_of_direct other = false
 abbrev pub IsNoDirect : Fact → Type 0
 IsNoDirect fact = (guarded_by fact ≡ None) × (is_of_direct fact ≡ false)
 
--- its direct write is over, and the tables are these now; it knows no more about a direct write
+-- its direct write is over, and the state is this now; it knows no more about a direct write
 pub record IsWithoutDirect (old new : SeatState) (t : LockState) : Type 0 where
   pub seat : new ≡ seat_of old (record (ending_direct t old.knows) { notes = new.knows.notes })
   pub notes : (fact : Fact) → IsNoDirect fact → IsIn fact old.knows.notes → IsIn fact new.knows.notes
 
--- The seat saw the history, and took the undecided prepare of the name; the tables held just the keys of its batch for it. A history that
+-- The seat saw the history, and took the undecided prepare of the name; the state held just the keys of its batch for it. A history that
 -- the seat holds is that one.
 pub record TakesPrepare (old : SeatState) (t : LockState) (name : List ℕ) (new : SeatState) : Type 0 where
   pub history : List Entry

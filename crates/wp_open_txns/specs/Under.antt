@@ -1,4 +1,4 @@
--- What the calls do while they hold the locks turn with its tables: what they answer, and how they leave the tables and the seat.
+-- What the calls do while they hold the locks turn with its state: what they answer, and how they leave the state and the seat.
 use Rattle.std.specs.Prelude.{◌≡◌, ℕ, ◌≤◌, true, false, List, length, Option, Some, None, is_some, Result, Ok, Err}
 use Rattle.std.specs.FinMap as finite
 use Rattle.wp_model.specs.LockState.{LockState}

@@ -2,7 +2,9 @@
 ghost use Rattle.std.specs.Prelude.{◌≡◌, [], true, false, is_some};
 ghost use Rattle.std.specs.FinSet as set;
 ghost use Rattle.std.specs.FinMap as finite;
+ghost use Rattle.wp_core.specs.Lists.{IsIn};
 ghost use Rattle.wp_core.specs.States.{locks};
+ghost use Rattle.wp_core.specs.Views.{unprepared};
 ghost use Rattle.wp_model.specs.declared.holder.Holder.TheVariants.{Txn};
 ghost use Rattle.wp_shared.specs.Seats.{IsFree, participant_of};
 ghost use Rattle.wp_shared.specs.Turns.{HoldsTurn};
@@ -48,6 +50,7 @@ fn lock<D: Disk + Drop>(
     requires holder { holder ≡ Txn name.now }
     requires has { is_some (finite.get seat.old.knows.participant.transactions name.now) ≡ true }
     requires unlocked { set.contains (transaction_in (participant_of seat.old) name.now).locked key.now ≡ false }
+    requires noted { IsIn (unprepared name.now) seat.old.knows.notes }
     ensures answered { LocksKey tables.old seat.old name.now key.now result tables.new seat.new }
     ensures holds { HoldsTurn store.now seat.new (locks tables.new) [] [] }
 {

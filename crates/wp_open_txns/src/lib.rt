@@ -1,8 +1,8 @@
 //! The transactions of a shared store that make no entry: their names, the keys that they lock, and the board.
 //!
 //! Each call is a free function over the store and the caller's seat, and begins and ends with a seat that holds no turn. What
-//! it does it does while it holds the turn that guards the tables concerned, by steps of the machine of `wp_core`; its
-//! clause says what the seat's actor then has and remembers, and of a refusal also what the tables held as it found them.
+//! it does it does while it holds the turn that guards the state concerned, by steps of the machine of `wp_core`; its
+//! clause says what the seat's actor then has and remembers, and of a refusal also what the state held as it found that.
 //!
 //! - `begin` claims a name for an open transaction. `stage` takes a change into its batch, and locks the change's key first
 //!   where the batch has none of it. `abandon` drops it, with its name and its keys.

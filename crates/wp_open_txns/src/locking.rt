@@ -18,7 +18,7 @@ use wp_model::{Holder, Key};
 use wp_outside::Disk;
 use wp_shared::{Seat, Shared};
 
-/// Gives the key to the holder in the tables, or finds who holds it.
+/// Gives the key to the holder in the locks, or finds who holds it.
 pub fn lock_for<D: Disk + Drop>(
     store: &Shared<D>,
     seat: &mut Seat<D>,

@@ -27,7 +27,7 @@ use wp_model::{Batch, Holder, Key, Name, Seq};
 use wp_outside::Disk;
 use wp_shared::{Seat, Shared};
 
-/// The seat claimed the name, which was not live. It still holds the tables as they were before.
+/// The seat claimed the name, which was not live. It still holds the state as it was before.
 pub(crate) fn claim_name<D: Disk + Drop>(store: &Shared<D>, seat: &mut Seat<D>, name: &Name)
     requires seat { seat.old.table ≡ store.now.table }
     requires free { (t : LockState) × IsIn (locks t) (held_by seat.old) × (finite.get t.names name.now ≡ None) }
@@ -67,7 +67,7 @@ pub(crate) fn find_holder<D: Disk + Drop>(
     store.make_about::<Brand, (&Key, &Holder)>(seat, &(key, holder));
 }
 
-/// The seat locked the key, which nobody held, for its transaction of this name. It still holds the tables as they were before.
+/// The seat locked the key, which nobody held, for its transaction of this name. It still holds the state as it was before.
 pub(crate) fn lock_key<D: Disk + Drop>(
     store: &Shared<D>,
     seat: &mut Seat<D>,
@@ -77,6 +77,7 @@ pub(crate) fn lock_key<D: Disk + Drop>(
     requires seat { seat.old.table ≡ store.now.table }
     requires has { is_some (finite.get seat.old.knows.participant.transactions name.now) ≡ true }
     requires unlocked { set.contains (transaction_in (participant_of seat.old) name.now).locked key.now ≡ false }
+    requires noted { IsIn (unprepared name.now) seat.old.knows.notes }
     requires free { (t : LockState) × IsIn (locks t) (held_by seat.old) × (is_free_for (finite.get t.keys key.now) (Txn name.now) ≡ true) }
     ensures locked { (t : LockState) → IsIn (locks t) (held_by seat.old) → seat.new ≡ seat_of seat.old (with_locked t name.now key.now seat.old.knows) }
     ensures nobodys { (t : LockState) → IsIn (locks t) (held_by seat.old) → finite.get t.keys key.now ≡ None }
@@ -99,7 +100,7 @@ pub(crate) fn set_batch<D: Disk + Drop>(
     store.make_about::<Brand, (&Name, &Batch)>(seat, &(name, batch));
 }
 
-/// The seat freed its transaction, which is no undecided prepare, with its name and its keys. The tables had just those keys for it
+/// The seat freed its transaction, which is no undecided prepare, with its name and its keys. The locks had just those keys for it
 /// that it locked.
 pub(crate) fn free_transaction<D: Disk + Drop>(
     store: &Shared<D>,
@@ -135,7 +136,7 @@ pub(crate) fn leave_name<D: Disk + Drop>(
     store.make_about::<Brand, Name>(seat, &txn.name);
 }
 
-/// The seat took the undecided prepare of this name, which nobody had. It still holds the tables as they were before.
+/// The seat took the undecided prepare of this name, which nobody had. It still holds the state as it was before.
 pub(crate) fn take_name<D: Disk + Drop>(store: &Shared<D>, seat: &mut Seat<D>, name: &Name)
     requires seat { seat.old.table ≡ store.now.table }
     requires left { (t : LockState) × IsIn (locks t) (held_by seat.old) × (finite.get t.names name.now ≡ Some None) }
@@ -144,7 +145,7 @@ pub(crate) fn take_name<D: Disk + Drop>(store: &Shared<D>, seat: &mut Seat<D>, n
     store.make_about::<Brand, Name>(seat, name);
 }
 
-/// The seat told under the label how much it has seen. It still holds the tables as they were before.
+/// The seat told under the label how much it has seen. It still holds the state as it was before.
 pub(crate) fn tell_label<D: Disk + Drop>(store: &Shared<D>, seat: &mut Seat<D>, label: &Name)
     requires seat { seat.old.table ≡ store.now.table }
     requires held { (t : LockState) × IsIn (locks t) (held_by seat.old) }

@@ -31,6 +31,7 @@ use Rattle.wp_tableset.proofs.DeviceLemmas.{synced_grows, unmoved_grows}
 use Rattle.wp_tableset.proofs.SetLemmas.{Grows, left_of, none_left, passes_grown}
 use Rattle.wp_core.specs.Effects.{with_failed}
 use Rattle.wp_core.specs.States.{Installed}
+use Rattle.wp_core.specs.Views.{Event}
 use Rattle.wp_parts.specs.declared.edits.FailedInstall.{FailedInstall}
 use Rattle.wp_parts.specs.VersionSet.{VersionSetState, IsEdits, asked_for, edits_state, failed_edit}
 use Rattle.wp_parts.specs.Installs.{WrittenInstallState, IsBehind, SurvivesInstall}
@@ -196,8 +197,8 @@ module _ (set first : TableSetState) (base : ℕ) (parts : List (List Version)) 
     pub written_table : (edits_state new first base parts failed).state ≡ (edits_state set first base parts failed).state
     written_table = kept_table same_manifest set.halted (ap (λ (s : TableSetState). s.halted) written.changed)
 
-    pub is_behind : (tables : List (List Version)) (room : ℕ) → tables ≡ new_parts r.asked.versions → length parts < room → IsBehind (edits_state set first base parts failed) (edits_state new first base parts failed) (record { edit = r; tables = tables; room = room })
-    is_behind tables room are fits = record { was = k; written = written; tables_are = are; room = fits; state = written_table; parts = refl; first = refl }
+    pub is_behind : (tables : List (List Version)) (room : ℕ) (past : List Event) → tables ≡ new_parts r.asked.versions → length parts < room → IsBehind (edits_state set first base parts failed) (edits_state new first base parts failed) (record { edit = r; tables = tables; room = room; past = past })
+    is_behind tables room past are fits = record { was = k; written = written; tables_are = are; room = fits; state = written_table; parts = refl; first = refl }
 
   module _ (stopped : NotWritten set new) where
     pub stopped_edits : IsEdits (edits_state new first base parts failed)

@@ -1,5 +1,6 @@
 -- The tables' edit that comes next, between the stages of its install, and what is left where it is refused.
-use Rattle.std.specs.Prelude.{◌≡◌, ◌⊎◌, ℕ, ◌<◌, List, [], length, Some}
+use Rattle.std.specs.Prelude.{◌≡◌, ◌⊎◌, ℕ, ◌<◌, List, [], ◌∷◌, ◌++◌, length, Some}
+use Rattle.wp_model.specs.declared.entry.Entry.{Entry}
 use Rattle.wp_model.specs.declared.segment.Segment.{Segment}
 use Rattle.wp_model.specs.declared.version.Version.{Version}
 use Rattle.wp_model.specs.Flushed.{InstalledEdit}
@@ -14,6 +15,7 @@ use Rattle.wp_tableset.specs.Install.{ReadyState, WrittenEditState, IsReadyEdit,
 use Rattle.wp_tableset.specs.Set.{TableSetState, LeavesTables, StoresTables}
 use Rattle.wp_core.specs.Effects.{with_failed}
 use Rattle.wp_core.specs.States.{Installed}
+use Rattle.wp_core.specs.Views.{Event, log_failed}
 use Rattle.wp_parts.specs.VersionSet.{VersionSetState, IsEdits, asked_for}
 
 -- ---- the stages
@@ -23,11 +25,17 @@ pub record ReadyInstallState : Type 0 where
   pub edit : ReadyState
   pub room : ℕ
 
--- an edit whose table is written, what that has, if there is one, and for what of how many tables there is room
+-- an edit whose table is written, what that has, if there is one, for what of how many tables there is room, and what the seat remembered
+-- that wrote it
 pub record WrittenInstallState : Type 0 where
   pub edit : WrittenEditState
   pub tables : List (List Version)
   pub room : ℕ
+  pub past : List Event
+
+-- of these two pasts the second is the first and more, and its last event is that the log failed
+abbrev pub FailedSince : List Event → List Event → Type 0
+FailedSince before now = (events : List Event) × (entries : List Entry) × (now ≡ before ++ (events ++ log_failed entries ∷ []))
 
 -- it is ready for these tables, and there is room for what one more has
 pub record IsReadyFor (e : VersionSetState) (ready : ReadyInstallState) : Type 0 where

@@ -19,7 +19,7 @@ use Rattle.wp_wal.specs.Wal.{WalState, LeavesCut, LosesNothingAt, StoresCut, IsR
 use Rattle.wp_core.specs.Conditions.{NoneNext}
 use Rattle.wp_core.specs.States.{WriteState}
 
--- The table of the machine that it is, its log now, and its log as it was opened. The log may be closed while its device may be called
+-- The state of the machine that it is, its log now, and its log as it was opened. The log may be closed while its device may be called
 -- still, where it was stopped behind a failure of the tables' devices.
 pub record LogState : Type 0 where
   pub state : WriteState
@@ -65,7 +65,7 @@ format_at first base = if base == first.segment.base then first.format else Two
 
 -- ---- what is so of it
 
--- The log stores what the table says that it spells, cut at the base of its segment; once an append has failed, that, or that and the
+-- The log stores what the state says that it spells, cut at the base of its segment; once an append has failed, that, or that and the
 -- failed record, whole. No segment waits beside the one in use: there is none, or the log is closed, and then each crash leaves the
 -- history in that one too, cut at its end. The log has the id that it was opened with, its version too until its base was raised, and a
 -- base no lower. Since then its device failed just where it is closed and was not stopped; and what was acknowledged then is so still, as
@@ -134,7 +134,7 @@ IsSegmentOf s new = (new.base ≡ base_of s.state.history) × IsBase new.base ×
 abbrev pub IsPlaceOf : LogState → NewSegmentState → ℕ → Type 0
 IsPlaceOf s new place = (length new.bytes ≤ s.state.segment.place → place ≡ 0) × (s.state.segment.place < length new.bytes → IfKnown s.wal.moments (λ m. place ≡ length m.reads))
 
--- the table once this segment waits beside the one in use
+-- the state once this segment waits beside the one in use
 abbrev pub with_next : WriteState → Segment → WriteState
 with_next t segment = record t { next = Some segment }
 

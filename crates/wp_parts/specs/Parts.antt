@@ -16,7 +16,7 @@ use Rattle.wp_parts.specs.VersionSet.{VersionSetState, IsNamed, HasTablesOf}
 use Rattle.wp_parts.specs.declared.turn_value.TurnValue.{TurnValue}
 use Rattle.wp_parts.specs.declared.turn_value.TurnValue.TheVariants as part
 
--- the table of the machine that it is; none where it only stands in for one
+-- the state of the machine that it is; none where it only stands in for one
 abbrev pub content : {D : Type 0} → TurnValue D → Option Content
 content part.Away = None
 content (part.Write log) = Some (writes log.value.state)
@@ -26,11 +26,11 @@ content (part.Store stock) = Some (store (store_state stock.value))
 content (part.Locks tables) = Some (locks tables.value)
 content (part.Tables edits) = Some (installed edits.value.state)
 
--- it is a table of this turn
+-- its state is one of this turn
 abbrev pub IsGuardedBy : {D : Type 0} → Turn → TurnValue D → Type 0
 IsGuardedBy turn x = (c : Content) × (content x ≡ Some c) × (turn_of c ≡ turn)
 
--- what a crash leaves of its devices is as its table says; of a log that is not closed no segment waits beside the one in use
+-- what a crash leaves of its devices is as its state says; of a log that is not closed no segment waits beside the one in use
 abbrev pub LogStands : LogState → Type 0
 LogStands log = LogTells (images log.wal.moments) (spells log) log.state × NoneNext log.state
 

@@ -11,7 +11,7 @@ pub record StockState : Type 0 where
   pub parts : StoreParts
   pub floor : ℕ
 
--- the table of the machine that it is: the frozen parts are in memory
+-- the state of the machine that it is: the frozen parts are in memory
 abbrev pub store_state : StockState → StoreState
 store_state s = record { memory = sorted_of (joined (s.parts.memory ∷ s.parts.frozen)); tables = sorted_of (joined s.parts.tables); floor = s.floor }
 

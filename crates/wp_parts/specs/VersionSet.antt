@@ -21,7 +21,7 @@ use Rattle.wp_tableset.specs.declared.gone.Gone.TheVariants.{Frozen, Tables}
 use Rattle.wp_core.specs.States.{Installed}
 use Rattle.wp_parts.specs.declared.edits.FailedInstall.{FailedInstall}
 
--- the table of the machine that it is, the set of tables now with the versions of each, and the set as it was opened
+-- the state of the machine that it is, the set of tables now with the versions of each, and the set as it was opened
 pub record VersionSetState : Type 0 where
   pub state : Installed
   pub set : TableSetState

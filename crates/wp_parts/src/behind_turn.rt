@@ -27,7 +27,7 @@ pub trait BehindTurn<S: HoldsPart>: Sized {
     /// The state of the machine that it is.
     ghost state: { Self → Content };
 
-    /// Its devices were opened as those of the values behind the turns, of which the list has each as the table was made.
+    /// Its devices were opened as those of the values behind the turns, of which the list has each as the table of the words was made.
     ghost is_of: { List S → Self → Type 0 };
 
     /// Its state is that of the turn.
@@ -43,7 +43,7 @@ pub trait BehindTurn<S: HoldsPart>: Sized {
         ensures table { S.content part ≡ Some (state result.value) }
         ensures of { (first : List S) → S.tells first part → is_of first result.value };
 
-    /// The value, for its turn's slot. What a crash leaves of its devices is as its table says.
+    /// The value, for its turn's slot. What a crash leaves of its devices is as its state says.
     fn into_part(value: Box<Self>) -> S
         ensures table { S.content result ≡ Some (state value.value) }
         ensures tells { (first : List S) → is_of first value.value → S.tells first result };

@@ -15,16 +15,17 @@ ghost use Rattle.wp_tableset.specs.declared.gone.Gone.TheVariants.{Frozen};
 ghost use Rattle.wp_core.specs.Effects.{with_failed};
 ghost use Rattle.wp_core.specs.Images.{ManifestTells, TablesTell};
 ghost use Rattle.wp_parts.specs.VersionSet.{VersionSetState, IsEdits, IsNamed, HasTablesOf, edits_state};
-ghost use Rattle.wp_parts.specs.Installs.{HadCause, IsBehind, IsReadyFor, KeepsBoth, KeepsDevice, SurvivesNext, SurvivesWrite, manifest_faults, state_with, state_without};
+ghost use Rattle.wp_parts.specs.Installs.{FailedSince, HadCause, IsBehind, IsReadyFor, KeepsBoth, KeepsDevice, SurvivesNext, SurvivesWrite, manifest_faults, state_with, state_without};
 
-use crate::log::Log;
 use crate::table_versions::TableVersions;
+use crate::turn_value::TurnValue;
 use std::alloc::{AllocError, Global};
 use std::marker::Model;
 use std::snapshot::Snapshot as Ghost;
 use std::sync::Arc;
 use wp_model::{Segment, Seq, Versions};
 use wp_outside::{Disk, Failed};
+use wp_rule::WordSeat;
 use wp_table::Table;
 use wp_tableset::{Gone, ReadyEdit, SetDisks, TableSet, WrittenEdit};
 
@@ -56,20 +57,22 @@ impl Model for ReadyInstall {
     ghost invariant = { λ r. r.tables.items ≡ [] };
 }
 
-/// An edit whose table is on its device, if it has one. Clauses see the edit, what its table has, and for what of how many tables there
-/// is room. It has no `Drop`, so none that was written is forgotten: it is installed, or given up behind a failed log.
-pub struct WrittenInstall {
+/// An edit whose table is on its device, if it has one. Clauses see the edit, what its table has, for what of how many tables there is
+/// room, and what the seat remembered that wrote it. It has no `Drop`, so none that was written is forgotten: it is installed, or given up
+/// by a seat that remembers since then that the log failed.
+pub struct WrittenInstall<D: Disk> {
     edit: WrittenEdit,
     tables: Vec<TableVersions>,
+    by: Ghost<WordSeat<TurnValue<D>>>,
 }
 
-impl Model for WrittenInstall {
+impl<D: Disk> Model for WrittenInstall<D> {
     ghost use Rattle.std.specs.Prelude.{vec_capacity};
     ghost use Rattle.wp_parts.specs.Installs.{WrittenInstallState};
 
     ghost Value = { WrittenInstallState };
 
-    ghost view = { λ w. record { edit = w.edit; tables = w.tables.items; room = vec_capacity w.tables } };
+    ghost view = { λ w. record { edit = w.edit; tables = w.tables.items; room = vec_capacity w.tables; past = w.by.value.me.0.participant.past } };
 }
 
 impl ReadyInstall {
@@ -81,21 +84,22 @@ impl ReadyInstall {
     }
 }
 
-impl WrittenInstall {
-    /// No edit will name the table: the log failed, or was stopped, before one was installed. No device is called.
-    pub fn give_up<D: Disk>(self, log: &Log<D>)
-        requires { log.now.state.closed ≡ true }
+impl<D: Disk> WrittenInstall<D> {
+    /// No edit will name the table, since the log failed before one was installed: the seat that wrote it remembers that. No device is called.
+    pub fn give_up(self, seat: &WordSeat<TurnValue<D>>)
+        requires { FailedSince self.past seat.now.me.0.participant.past }
     {
-        let _ = log;
+        let _ = seat;
         let WrittenInstall {
             edit,
             tables: _tables,
+            by: _by,
         } = self;
         edit.give_up();
     }
 }
 
-/// The set of tables, and what the tables of its last edit have, the newest first. Clauses see the table of the machine that it
+/// The set of tables, and what the tables of its last edit have, the newest first. Clauses see the state of the machine that it
 /// is, the set, the versions of each table, and the set as it was when this value was made.
 pub struct VersionSet<D: Disk> {
     alloc: Global,
@@ -226,12 +230,18 @@ impl<D: Disk> VersionSet<D> {
         Ok(ReadyInstall { edit, tables })
     }
 
-    /// Writes the table of a ready edit, if it has one. After a fault of the device the tables are halted. It takes no memory.
-    pub fn write_table(&mut self, ready: ReadyInstall) -> Result<WrittenInstall, Failed>
+    /// Writes the table of a ready edit, if it has one, for this seat. After a fault of the device the tables are halted. It takes no
+    /// memory.
+    pub fn write_table(
+        &mut self,
+        ready: ReadyInstall,
+        seat: &WordSeat<TurnValue<D>>,
+    ) -> Result<WrittenInstall<D>, Failed>
         requires running { self.old.state.halted ≡ false }
         requires ready { IsReadyFor self.old ready }
         ensures written { IfOk result (λ written. (self.new.state ≡ self.old.state) × IsBehind self.old self.new written) }
         ensures asked { IfOk result (λ written. written.edit.asked ≡ ready.edit.asked) }
+        ensures past { IfOk result (λ written. written.past ≡ seat.now.me.0.participant.past) }
         ensures parts { self.new.parts ≡ self.old.parts }
         ensures uncalled { ready.edit.asked.versions ≡ [] → self.new ≡ self.old }
         ensures refused { OnErr result (self.new.state ≡ with_failed self.old.state None) }
@@ -243,13 +253,17 @@ impl<D: Disk> VersionSet<D> {
         let ReadyInstall { edit, mut tables } = ready;
         let edit = self.set.write_table(edit)?;
         put_versions(&mut tables, edit.table());
-        Ok(WrittenInstall { edit, tables })
+        Ok(WrittenInstall {
+            edit,
+            tables,
+            by: Ghost::of(seat),
+        })
     }
 
     /// Installs an edit whose table was written, with this segment of the log. The table is for readers. It takes no memory.
     pub fn install(
         &mut self,
-        written: WrittenInstall,
+        written: WrittenInstall<D>,
         segment: Segment,
     ) -> Result<Option<Arc<Table>>, Failed>
         requires running { self.old.state.halted ≡ false }
@@ -265,7 +279,8 @@ impl<D: Disk> VersionSet<D> {
         ensures joint { KeepsBoth self.old self.new written }
         ensures first { self.new.first ≡ self.old.first }
     {
-        let WrittenInstall { edit, tables } = written;
+        let WrittenInstall { edit, tables, by } = written;
+        drop(by);
         let (gone, flushed) = edit.asked();
         match self.set.install(edit, segment.place) {
             Ok(table) => {
@@ -286,7 +301,7 @@ impl<D: Disk> VersionSet<D> {
         }
     }
 
-    /// For the proof alone: what a crash leaves of the devices is as the table says.
+    /// For the proof alone: what a crash leaves of the devices is as the state says.
     pub fn devices_agree(&self)
         ensures manifest { ManifestTells (images self.now.set.manifest.log.moments) (IsNamed self.now) self.now.state }
         ensures tables { TablesTell (images self.now.set.moments) (HasTablesOf self.now) self.now.state }

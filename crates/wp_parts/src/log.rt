@@ -30,7 +30,7 @@ use wp_outside::{Disk, Failed};
 use wp_rule::WordSeat;
 use wp_wal::{NewSegment, Wal, Written};
 
-/// The history, with the record that is pending, and the log. Clauses see the table of the machine that it is, the log, and
+/// The history, with the record that is pending, and the log. Clauses see the state of the machine that it is, the log, and
 /// the log as it was when this value was made.
 ///
 /// A record is made pending with all the memory that it will need. From then on it is appended, and its entries join the
@@ -309,7 +309,7 @@ impl<D: Disk> Log<D> {
         let _ = &self.wal;
     }
 
-    /// For the proof alone: what a crash leaves of the device is as the table says, and no other segment waits.
+    /// For the proof alone: what a crash leaves of the device is as the state says, and no other segment waits.
     pub fn devices_agree(&self)
         ensures tells { LogTells (images self.now.wal.moments) (spells self.now) self.now.state }
         ensures next { NoneNext self.now.state }

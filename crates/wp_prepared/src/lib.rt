@@ -1,4 +1,4 @@
-//! The prepared tables: which transactions are prepared and not yet taken out.
+//! The prepared sets: which transactions are prepared and not yet taken out.
 //!
 //! A prepared transaction goes by the number of its Prepare entry. Above the evicted bound these numbers are in
 //! the prepared heap. A number up to the bound that has no word in the commit cache is taken for committed, unless

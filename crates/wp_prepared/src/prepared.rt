@@ -46,7 +46,7 @@ impl Prepared {
         }
     }
 
-    /// The tables at the opening of a store: these numbers, of the undecided prepares, are delayed.
+    /// The sets at the opening of a store: these numbers, of the undecided prepares, are delayed.
     pub fn delaying(alloc: Global, numbers: &[Seq]) -> Result<Prepared, AllocError>
         requires { IsStrictlyIncreasing numbers.now }
         ensures heap { IfOk result (λ t. t.heap ≡ set.empty) }

@@ -1,4 +1,4 @@
--- All that is live is registered once more in one step of the table.
+-- All that is live is registered once more in one step of the snapshots.
 use Rattle.std.proofs.Common.{◌≡◌, ◌⊎◌, ⊎_elim, inl, inr, ℕ, suc, ◌≤◌, ◌==◌, eq-eqb, true, List, [], ◌∷◌, ◌++◌, length, map, refl, sym, subst, ap, ◌∙◌, ◌+◌, Option, Some, None, is_some, append-nil, append_assoc, length-append, arith}
 use Rattle.std.specs.Prelude.{slice_index_or}
 use Rattle.std.specs.FinMap as finite
@@ -31,7 +31,7 @@ use Rattle.wp_read.proofs.Registers.{registered_and_released}
 use Rattle.wp_read.proofs.Seated.{changes_then, pinned_more}
 
 again_ends : (number : ℕ) → EndsNothing (register_again number)
-again_ends number = record { guard = λ turn. refl; place = λ words place. refl; words = refl; delayed_flag = refl; old_flag = refl; pending = refl; adds = refl; takes = refl; prepared = refl; unprepared = refl; delays = refl; transaction = λ history name. refl; direct = refl; moves = refl; replaces = refl; installing = refl }
+again_ends number = record { guard = λ turn. refl; place = λ words place. refl; words = refl; delayed_flag = refl; old_flag = refl; pending = refl; adds = refl; takes = refl; prepared = refl; unprepared = refl; delays = refl; transaction = λ history name. refl; changes = λ history key. refl; direct = refl; moves = refl; replaces = refl; installing = refl }
 
 -- ---- the steps, over what is left of the numbers
 

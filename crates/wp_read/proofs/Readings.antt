@@ -67,10 +67,10 @@ reads_now z s t w r k e = record {
 }
 
 begin_ends : (bits q : ℕ) (r : Registration) → EndsNothing (begin_reading bits q r)
-begin_ends bits q r = record { guard = λ turn. refl; place = λ words place. refl; words = refl; delayed_flag = refl; old_flag = refl; pending = refl; adds = refl; takes = refl; prepared = refl; unprepared = refl; delays = refl; transaction = λ history name. refl; direct = refl; moves = refl; replaces = refl; installing = refl }
+begin_ends bits q r = record { guard = λ turn. refl; place = λ words place. refl; words = refl; delayed_flag = refl; old_flag = refl; pending = refl; adds = refl; takes = refl; prepared = refl; unprepared = refl; delays = refl; transaction = λ history name. refl; changes = λ history key. refl; direct = refl; moves = refl; replaces = refl; installing = refl }
 
 load_ends : (which : Load) → EndsNothing (load which)
-load_ends which = record { guard = λ turn. refl; place = λ words place. refl; words = refl; delayed_flag = refl; old_flag = refl; pending = refl; adds = refl; takes = refl; prepared = refl; unprepared = refl; delays = refl; transaction = λ history name. refl; direct = refl; moves = refl; replaces = refl; installing = refl }
+load_ends which = record { guard = λ turn. refl; place = λ words place. refl; words = refl; delayed_flag = refl; old_flag = refl; pending = refl; adds = refl; takes = refl; prepared = refl; unprepared = refl; delays = refl; transaction = λ history name. refl; changes = λ history key. refl; direct = refl; moves = refl; replaces = refl; installing = refl }
 
 module _ {D : Type 0} (z : SharedState D) (p : Place) (steps : World → List Step) (s t : SeatState) (bits q : ℕ) (r : Registration) (is : steps ≡ (λ w. begin_reading bits q r ∷ [])) where
   pub may_begin : 2 ^ bits ≡ p.cells → IsIn r s.knows.participant.registered → (q ≤ r.number → has_versions_at s.knows.participant.seen q ≡ true) → MayMake p s.knows steps
@@ -115,7 +115,7 @@ load_made z so s t which r r' next is same m =
 pub word_is : {D : Type 0} (z : SharedState D) (by : ℕ) (a : Actor) (w : World) (version index word : ℕ) → index ≡ cache_place z.cells version → IsAt (place_at z by) a w → word ≡ slice_index w.cache index → word ≡ cached_word w.cache version
 word_is z by a w version index word is k found = found ∙ ap (slice_index w.cache) (is ∙ ap (λ n. cache_place n version) (sym k.cells))
 
--- a load of a word is no look into a table
+-- a load of a word is no look behind a turn
 pub none_to_look : (a : Actor) (which : Load) → IsOfWord which → KnowsLook a which
 none_to_look a FirstWord word = tt
 none_to_look a FirstMax word = tt
@@ -140,7 +140,7 @@ module _ {D : Type 0} (z : SharedState D) (by : ℕ) (a : Actor) (w : World) (k 
   word_loaded OldFlag x found r is so = ap (λ (n : ℕ). record r { old_flag = Some n }) (so ∙ ap (λ (y : Word). word_in y w) is)
   word_loaded other x found r is so = absurd is
 
--- ---- looks into tables
+-- ---- looks behind turns
 
 -- what the actor registered is live in the snapshots that it holds
 pub held_live : (p : Place) (a : Actor) (w : World) (m : Snapshots) (r : Registration) → IsAt p a w → IsIn (snapshots m) a.held → IsIn r a.participant.registered → IsLive m r.number

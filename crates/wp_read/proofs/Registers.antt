@@ -167,10 +167,10 @@ kept_by_register m n none s p = is_has_old m s p ∙ (by (s == n) refl ∙ (sym 
 -- ---- the step that registers
 
 register_ends : (smallest : ℕ) → EndsNothing (register smallest)
-register_ends smallest = record { guard = λ turn. refl; place = λ words place. refl; words = refl; delayed_flag = refl; old_flag = refl; pending = refl; adds = refl; takes = refl; prepared = refl; unprepared = refl; delays = refl; transaction = λ history name. refl; direct = refl; moves = refl; replaces = refl; installing = refl }
+register_ends smallest = record { guard = λ turn. refl; place = λ words place. refl; words = refl; delayed_flag = refl; old_flag = refl; pending = refl; adds = refl; takes = refl; prepared = refl; unprepared = refl; delays = refl; transaction = λ history name. refl; changes = λ history key. refl; direct = refl; moves = refl; replaces = refl; installing = refl }
 
 release_ends : (front back : List Registration) (r : Registration) → EndsNothing (release front r back)
-release_ends front back r = record { guard = λ turn. refl; place = λ words place. refl; words = refl; delayed_flag = refl; old_flag = refl; pending = refl; adds = refl; takes = refl; prepared = refl; unprepared = refl; delays = refl; transaction = λ history name. refl; direct = refl; moves = refl; replaces = refl; installing = refl }
+release_ends front back r = record { guard = λ turn. refl; place = λ words place. refl; words = refl; delayed_flag = refl; old_flag = refl; pending = refl; adds = refl; takes = refl; prepared = refl; unprepared = refl; delays = refl; transaction = λ history name. refl; changes = λ history key. refl; direct = refl; moves = refl; replaces = refl; installing = refl }
 
 abbrev registering : Option ℕ → World → Step
 registering smallest w = register (unwrap_or smallest (suc (length w.writes.history)))

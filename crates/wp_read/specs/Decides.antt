@@ -28,7 +28,7 @@ Looks z old new p snapshot (look.Decided visible) =
 Looks z old new p snapshot (look.Ask word max) =
     (r : Observed) × Reads z old new r × (r ≡ reads_first r.bits p snapshot word max) × (ask r ≡ asked.Load load.DelayedFlag)
 
--- what the seat loaded without a turn decides the version, and rightly; or a table is to be looked into next
+-- what the seat loaded without a turn decides the version, and rightly; or a state behind a turn is to be looked into next
 abbrev pub DecidesFree : {D : Type 0} → SharedState D → SeatState → SeatState → ℕ → Registration → Free → Type 0
 DecidesFree z old new p snapshot (free.Decided visible) =
     (r : Observed) × Reads z old new r × IsOf p snapshot r × (ask r ≡ asked.Answer visible) × IsRight old.knows.participant.seen p snapshot.number visible

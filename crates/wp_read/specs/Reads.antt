@@ -45,7 +45,7 @@ pub record Loads {D : Type 0} (z : SharedState D) (which : Load) (old new : Seat
 abbrev pub IsNext : SeatState → Observed → Load → Type 0
 IsNext s r which = (s.knows.reading ≡ Some r) × (ask r ≡ asked.Load which)
 
--- the load is of a word, and not a look into a table
+-- the load is of a word, and not a look behind a turn
 abbrev pub IsOfWord : Load → Type 0
 IsOfWord which = (which ≢ InPrepared) × (which ≢ IsOldCommit)
 

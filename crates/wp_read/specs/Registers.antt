@@ -52,7 +52,7 @@ behind_last r (s ∷ others) = if list_any (is_same_registration r) others then 
 abbrev pub registration_of : ℕ → Option ℕ → Registration
 registration_of number smallest = record { number = number; smallest = unwrap_or smallest (suc number) }
 
--- A snapshot may be registered with this smallest by who holds these tables: 1, or the least number that is prepared in one of them,
+-- A snapshot may be registered with this smallest by who holds these states: 1, or the least number that is prepared in one of them,
 -- or none where none is.
 abbrev pub MayRegister : List Content → Option ℕ → Type 0
 MayRegister held smallest = (smallest ≡ Some 1) ⊎ ((t : PreparedSets) × IsIn (prepared t) held × MatchOption smallest (NonePrepared t) (IsSmallest t))
@@ -143,7 +143,7 @@ pub record MayPin (seen : List Entry) (m : Snapshots) (floor : ℕ) (numbers : L
 abbrev pub pinning : ℕ → List ℕ → List Step
 pinning floor numbers = map register_again numbers ++ note (live_listed floor numbers) ∷ []
 
--- the seat then, where it held these live snapshots, and these other tables
+-- the seat then, where it held these live snapshots, and these other states
 abbrev pub pinned : SeatState → ℕ → List ℕ → Snapshots → List Content → SeatState
 pinned s floor numbers m others = record s {
   knows = record s.knows {

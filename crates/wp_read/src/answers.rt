@@ -17,7 +17,7 @@ pub enum Look {
 pub enum Free {
     /// The version is visible, or it is not.
     Decided(bool),
-    /// Something is delayed, so that the prepared tables have to be looked into.
+    /// Something is delayed, so that the prepared sets have to be looked into.
     Prepared(Observed),
     /// The old commit map has something, so that it has to be looked into.
     Snapshots(Observed),

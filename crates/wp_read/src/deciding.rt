@@ -79,7 +79,7 @@ pub fn decide_free<D: Disk + Drop>(
     }
 }
 
-/// Takes the prepared turn for one look into its tables.
+/// Takes the prepared turn for one look into its sets.
 fn load_prepared<D: Disk + Drop, R: Wait>(
     store: &Shared<D>,
     rt: &R,
@@ -156,7 +156,7 @@ fn decide<D: Disk + Drop, R: Wait>(
     }
 }
 
-/// Decides the version `p`. It takes no memory, and a turn only for a look into a table that loads can't rule out.
+/// Decides the version `p`. It takes no memory, and a turn only for a look that loads can't rule out.
 pub fn visible<D: Disk + Drop, R: Wait>(
     store: &Shared<D>,
     rt: &R,

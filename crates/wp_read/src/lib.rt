@@ -6,7 +6,7 @@
 //!
 //! A version is decided by loads in the order of `wp_judge`. Mostly its word or the bound decides, and no turn is taken: that is
 //! what `look` and `decide_free` do. Where something is delayed, or the old commit map has something, `visible` takes the turn of
-//! that table for one look, and gives it again. Others go on between any two loads, and the answer is right all the same: it is
+//! that state for one look, and gives it again. Others go on between any two loads, and the answer is right all the same: it is
 //! whether the history that the seat has seen has the version committed at the snapshot.
 //!
 //! `get` copies the newest few versions of a key under the store turn, and decides them without it, the newest first. Which of

@@ -144,7 +144,7 @@ pub(crate) fn load<D: Disk + Drop>(
     load_with::<D, Brand>(store, seat, seen, which);
 }
 
-/// What the prepared tables say of the version.
+/// What the prepared sets say of the version.
 fn found(tables: &Prepared, version: Seq) -> InPrepared
     ensures { result ≡ found_in (set.contains tables.now.delayed version) (finite.get tables.now.delayed_commits version) }
 {
@@ -155,7 +155,7 @@ fn found(tables: &Prepared, version: Seq) -> InPrepared
     }
 }
 
-/// Looks into the prepared tables, which the seat holds.
+/// Looks into the prepared sets, which the seat holds.
 pub(crate) fn look_in_prepared<D: Disk + Drop>(
     store: &Shared<D>,
     seat: &mut Seat<D>,

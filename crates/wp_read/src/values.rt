@@ -154,8 +154,8 @@ fn look_through<D: Disk + Drop, R: Wait>(
 }
 
 /// The value of the key at the snapshot: of its newest version that is visible there. It copies few versions at first, and four
-/// times as many each time that none of them is visible. No turn is held while a version is decided but for a look into a
-/// table. That it would copy more than a length can be is answered as want of memory, since no memory holds so many.
+/// times as many each time that none of them is visible. No turn is held while a version is decided but for a look behind
+/// one. That it would copy more than a length can be is answered as want of memory, since no memory holds so many.
 pub fn get<D: Disk + Drop, R: Wait>(
     store: &Shared<D>,
     rt: &R,

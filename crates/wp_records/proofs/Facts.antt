@@ -3,13 +3,12 @@ use Rattle.std.proofs.Common.{◌≡◌, ℕ, Bool, true, false, true≢false, �
 use Rattle.wp_model.specs.declared.entry.Entry.{Entry}
 use Rattle.wp_core.specs.Cache.{cache_place}
 use Rattle.wp_core.specs.Sound.Views.{guarded_by}
-use Rattle.wp_core.specs.Entries.{transaction_of}
 use Rattle.wp_core.specs.States.{Content}
 use Rattle.wp_core.specs.Views.{Fact, passed, in_old_commits, apart, words_stay, versions_in_memory, versions_nowhere, number_in_heap, number_not_in_heap, pair_delayed, pair_not_delayed, none_waits, delayed_flag_stays, old_flag_stays}
 use Rattle.wp_shared.specs.Seats.{SeatState}
 use Rattle.wp_commits.specs.declared.way.Way.{Way}
 use Rattle.wp_commits.specs.declared.way.Way.TheVariants.{Undecided, InWord, Delayed}
-use Rattle.wp_shared.specs.Notes.{is_about, is_flag, GoesOn, is_under}
+use Rattle.wp_shared.specs.Notes.{is_ended_by, is_flag, GoesOn, is_under}
 use Rattle.wp_shared.proofs.Goes.{none_under_store}
 use Rattle.wp_commits.proofs.Clears.{flag_under_prepared}
 use Rattle.wp_core.specs.Turns.{prepared_turn, store_turn}
@@ -90,8 +89,8 @@ pub not_stage : (fact : Fact) → is_guarded fact ≡ false → is_of_stage fact
 not_stage fact e = λ i. not_pending fact e i || (neither (is_of_heap fact) (is_flag fact) (not_number fact e)).1 i
 
 module _ (history : List Entry) (entry : Entry) (fact : Fact) (e : may_end history entry fact ≡ false) where
-  stays : (is_guarded fact ≡ false) × (is_about (transaction_of history entry) fact ≡ false)
-  stays = neither (is_guarded fact) (is_about (transaction_of history entry) fact) e
+  stays : (is_guarded fact ≡ false) × (is_ended_by history entry fact ≡ false)
+  stays = neither (is_guarded fact) (is_ended_by history entry fact) e
 
   pub still_over : is_over history entry fact ≡ false
   still_over = λ i. not_pending fact stays.0 i || stays.1 i
@@ -125,7 +124,7 @@ module _ (test one two : Fact → Bool) (less : (fact : Fact) → test fact ≡ 
     noted = λ fact other there. second.noted fact (more fact other) (first.noted fact (less fact other) there);
   }
 
-  -- where the second leaves the tables and the turns as they are
+  -- where the second leaves the states and the turns as they are
   pub and_still : (h : List Content) (m : List ℕ) → GoesOn one h m s t → GoesOn two t.knows.held t.turns t u → GoesOn test h m s u
   and_still h m first second =
       subst (λ (x : List Content × List ℕ). GoesOn test x.0 x.1 s u) (λ i. (ap (λ (x : SeatState). x.knows.held) first.same i, ap (λ (x : SeatState). x.turns) first.same i))

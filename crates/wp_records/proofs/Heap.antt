@@ -1,4 +1,4 @@
--- The number of a pending Prepare, and the prepared tables.
+-- The number of a pending Prepare, and the prepared sets.
 use Rattle.std.proofs.Common.{◌≡◌, inl, inr, ℕ, suc, ◌||◌, Bool, true, false, true≢false, List, [], ◌∷◌, length, refl, sym, subst, ap, ◌∙◌, Some, None, arith}
 use Rattle.std.specs.Cmp.{nat_cmp_total}
 use Rattle.std.specs.Ordering.{nat_cmp}
@@ -31,7 +31,7 @@ use Rattle.wp_shared.proofs.Tables.{held_state}
 use Rattle.wp_records.specs.Stages.{is_of_heap, is_of_number, HasPrepare}
 use Rattle.wp_records.proofs.Facts.{heap_alone}
 
--- a seat that holds both tables, in a world of the store
+-- a seat that holds both states, in a world of the store
 module _ {D : Type 0} (z : SharedState D) (s t : SeatState) (d : WriteState) (tables : PreparedSets) (same : t ≡ s) (at : (w : World) × Stands z t w) (held : s.knows.held ≡ prepared tables ∷ writes d ∷ []) where
   abbrev w : World
   w = at.0
@@ -93,7 +93,7 @@ module _ {D : Type 0} (z : SharedState D) (s t : SeatState) (d : WriteState) (ta
   pub left_heap : HasPrepare d → (after : PreparedSets) → after.heap ≡ set.remove tables.heap n → after.delayed ≡ set.remove tables.delayed n → after.delayed_commits ≡ finite.remove tables.delayed_commits n → after ≡ record tables { heap = set.remove tables.heap n }
   left_heap prepare after heap delayed commits = let one = delayed ∙ removed_same in let two = commits ∙ commits_same prepare in λ i. record { heap = heap i; delayed = one i; delayed_commits = two i }
 
--- the flag tells the same of tables with another heap
+-- the flag tells the same of prepared sets with another heap
 pub flag_still : (a b : Actor) (t u : PreparedSets) (heap : set.FinSet nat_cmp) → u ≡ record t { heap = heap } → ((value : ℕ) → Noted a (delayed_flag_stays value) → Noted b (delayed_flag_stays value)) → DelayedFlagTells a t → DelayedFlagTells b u
 flag_still a b t u heap is keeps f = record { value = f.value; noted = keeps f.value f.noted; empty = λ e. subst NoneDelayed (sym is) (f.empty e); down = λ none. f.down (subst NoneDelayed is none) }
 

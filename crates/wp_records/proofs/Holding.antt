@@ -54,7 +54,7 @@ module _ {D : Type 0} (z : SharedState D) (s t : SeatState) (log left : LogState
     words = subst (λ (e : List Entry). KnowsWords t.knows (length e)) (sym history) (words_of_seat s t (length log.state.history) (ap (λ (x : SeatState). x.knows.notes) is) h.words);
   }
 
--- the stage left the tables and the turns as they were
+-- the stage left the states and the turns as they were
 pub still_holds : {D : Type 0} (z : SharedState D) (s t : SeatState) (log : LogState) (test : Fact → Bool) → HoldsPending z s log → GoesOn test s.knows.held s.turns s t → KnowsWords t.knows (length log.state.history) → HoldsPending z t log
 still_holds z s t log test h k words = holds_with z s t log log h test (subst (λ (c : List Content). GoesOn test c s.turns s t) h.turn.held k) refl refl words
 

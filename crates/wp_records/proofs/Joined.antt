@@ -1,18 +1,19 @@
 -- Entries that join the history: what is known before, and after.
 use Rattle.std.proofs.Common.{◌≡◌, ◌≢◌, ⊎_elim, inl, inr, ℕ, suc, ◌≤◌, ◌||◌, Bool, cond, true, false, true≢false, List, [], ◌∷◌, ◌++◌, length, length-append, append_assoc, refl, sym, subst, ap, ◌∙◌, Option, Some, arith}
 use Rattle.std.specs.FinMap as finite
+use Rattle.wp_model.specs.declared.change.Change.{Change}
 use Rattle.wp_model.specs.declared.entry.Entry.{Entry}
 use Rattle.wp_model.specs.declared.entry.Entry.TheVariants.{Prepare, Commit, Undo, Close}
-use Rattle.wp_model.specs.History.{is_prepare}
+use Rattle.wp_model.specs.History.{is_changed, is_prepare}
 use Rattle.wp_model.specs.Legal.{IsLegal}
 use Rattle.wp_judge.specs.Words.{CommitPair, commit_pair}
 use Rattle.wp_core.specs.Cache.{cache_place}
 use Rattle.wp_core.specs.Conditions.{HasTransaction, IsPrepare}
 use Rattle.wp_model.specs.Record.{IsOneRecord}
-use Rattle.wp_core.specs.Entries.{next_of, pair_by, pending_pair}
+use Rattle.wp_core.specs.Entries.{next_of, pair_by, pending_pair, written}
 use Rattle.wp_core.specs.States.{WriteState, writes}
 use Rattle.wp_core.specs.Views as view
-use Rattle.wp_core.specs.Views.{Fact, passed, in_old_commits, words_stay, versions_in_memory, versions_nowhere, number_in_heap, number_not_in_heap}
+use Rattle.wp_core.specs.Views.{Fact, passed, in_old_commits, words_stay, versions_in_memory, versions_nowhere, number_in_heap, number_not_in_heap, unprepared}
 use Rattle.wp_core.specs.World.{Transaction, Participant, Actor}
 use Rattle.wp_core.proofs.HistoryLaws.{first_legal}
 use Rattle.wp_rule.specs.Knows.{KnowsHeld, Noted}
@@ -36,18 +37,34 @@ module _ (a b : Actor) (direct : b.participant.direct ≡ a.participant.direct) 
   has_still : (name : List ℕ) (x : Transaction) → HasTransaction a name x → HasTransaction b name x
   has_still name x has = ap (λ m. finite.get m name) transactions ∙ has
 
-  held_still : (key : List ℕ) → KnowsHeld a key → KnowsHeld b key
-  held_still key k = ⊎_elim (λ (e : a.participant.direct ≡ Some key). inl (direct ∙ e)) (λ e. inr (e.0, e.1, has_still e.0 e.1 e.2, e.3)) k
-
-  pub owns_still : (history : List Entry) (entry : Entry) → OwnsEntry a history entry → OwnsEntry b history entry
-  owns_still history entry o = record {
-    keys = λ key is. held_still key (o.keys key is);
+  -- an entry that is no Write needs no keys
+  needs_none : (history : List Entry) (entry : Entry) → written entry ≡ [] → OwnsEntry a history entry → OwnsEntry b history entry
+  needs_none history entry none o = record {
+    keys = λ key is. absurd (true≢false (sym is ∙ ap (λ (changes : List Change). is_changed changes key) none));
     transaction = λ name is. let t = o.transaction name is in (t.0, has_still name t.0 t.1, t.2);
   }
 
-  pub own_still : (history entries : List Entry) → OwnsEntries a history entries → OwnsEntries b history entries
-  own_still history [] o = tt
-  own_still history (entry ∷ others) o = (owns_still history entry o.0, own_still (history ++ entry ∷ []) others o.1)
+  -- those behind the first are none
+  pub behind_still : (history entries : List Entry) → AreBehind entries → OwnsEntries a history entries → OwnsEntries b history entries
+  behind_still history [] behind o = tt
+  behind_still history (Commit p ∷ others) behind o = (needs_none history (Commit p) refl o.0, behind_still (history ++ Commit p ∷ []) others behind o.1)
+  behind_still history (Close p ∷ others) behind o = (needs_none history (Close p) refl o.0, behind_still (history ++ Close p ∷ []) others behind o.1)
+  behind_still history other behind o = absurd behind
+
+  -- what was noted of names is noted still
+  module _ (noted : (name : List ℕ) → Noted a (unprepared name) → Noted b (unprepared name)) where
+    held_still : (key : List ℕ) → KnowsHeld a key → KnowsHeld b key
+    held_still key k = ⊎_elim (λ (e : a.participant.direct ≡ Some key). inl (direct ∙ e)) (λ e. inr (e.0, e.1, has_still e.0 e.1 e.2, e.3, noted e.0 e.4)) k
+
+    pub owns_still : (history : List Entry) (entry : Entry) → OwnsEntry a history entry → OwnsEntry b history entry
+    owns_still history entry o = record {
+      keys = λ key is. held_still key (o.keys key is);
+      transaction = λ name is. let t = o.transaction name is in (t.0, has_still name t.0 t.1, t.2);
+    }
+
+    pub own_still : (history entries : List Entry) → OwnsEntries a history entries → OwnsEntries b history entries
+    own_still history [] o = tt
+    own_still history (entry ∷ others) o = (owns_still history entry o.0, own_still (history ++ entry ∷ []) others o.1)
 
 -- ---- the pending entries
 
@@ -93,6 +110,11 @@ module _ {D : Type 0} (z : SharedState D) (s t u : SeatState) (log left : LogSta
 
   -- its pair was entered
   module _ (first : GoesOn (is_of_way z.cells way) s.knows.held s.turns s t) where
+    of_name : (w : Way) (name : List ℕ) → is_of_way z.cells w (unprepared name) ≡ false
+    of_name Undecided name = refl
+    of_name (InWord p c) name = refl
+    of_name (Delayed p c) name = refl
+
     lets : (w : Way) (fact : Fact) → (is_of_versions fact || is_of_heap fact) ≡ true → is_of_way z.cells w fact ≡ false
     lets Undecided versions_in_memory e = refl
     lets Undecided versions_nowhere e = refl
@@ -119,7 +141,7 @@ module _ {D : Type 0} (z : SharedState D) (s t u : SeatState) (log left : LogSta
           logged = may.logged;
           legal = first_legal log.state.history entry others (subst (λ (e : List Entry). IsLegal (log.state.history ++ e)) pending may.may.legal);
           versions = first.noted versions_in_memory (lets way versions_in_memory refl) versions;
-          owned = owns_still s.knows t.knows (ap (λ (x : Participant). x.direct) same) (ap (λ (x : Participant). x.transactions) same) log.state.history entry owned.0;
+          owned = owns_still s.knows t.knows (ap (λ (x : Participant). x.direct) same) (ap (λ (x : Participant). x.transactions) same) (λ name there. first.noted (unprepared name) (of_name way name) there) log.state.history entry owned.0;
         }
 
     pub entered_in_place : (bound : ℕ) (words : List ℕ) → Noted t.knows (words_stay (bound_with z.cells (length log.state.history) bound words way) (with_way words way)) → IsEntered t.knows z.cells (with_way words way) way → IsInPlace t.knows z.cells log.state entry
@@ -215,7 +237,7 @@ module _ {D : Type 0} (z : SharedState D) (s t u : SeatState) (log left : LogSta
               may = record {
                 legal = subst (λ (x : List Entry × List Entry). IsLegal (x.0 ++ x.1)) (λ i. (sym history_is i, sym pending_is i)) (subst IsLegal (sym (append_assoc log.state.history (entry ∷ []) others)) legal);
                 owned = subst (λ (x : List Entry × List Entry). OwnsEntries u.knows x.0 x.1) (λ i. (sym history_is i, sym pending_is i))
-                    (own_still s.knows u.knows (ap (λ (x : Participant). x.direct) same) (ap (λ (x : Participant). x.transactions) same) (log.state.history ++ entry ∷ []) others owned.1);
+                    (behind_still s.knows u.knows (ap (λ (x : Participant). x.direct) same) (ap (λ (x : Participant). x.transactions) same) (log.state.history ++ entry ∷ []) others behind owned.1);
               };
               number = λ is. absurd (behind_decides others behind (sym (ap (λ (e : List Entry). is_prepare (next_of e)) pending_is) ∙ is));
               pairs = subst (λ (x : ℕ × List Entry). AreReady u.knows z.cells (length left.state.history) (ways_of z.cells (suc x.0) x.1)) (λ i. (sym longer i, sym pending_is i)) ready;
@@ -234,7 +256,7 @@ joins_still a b cells d same noted k =
     } in
     record {
       logged = k.logged;
-      may = record { legal = k.may.legal; owned = own_still a b (ap (λ (x : Participant). x.direct) same) (ap (λ (x : Participant). x.transactions) same) d.history d.pending k.may.owned };
+      may = record { legal = k.may.legal; owned = own_still a b (ap (λ (x : Participant). x.direct) same) (ap (λ (x : Participant). x.transactions) same) (λ name there. noted (unprepared name) there) d.history d.pending k.may.owned };
       number = λ is. noted number_in_heap (k.number is);
       pairs = are_ready_still a b cells (length d.history) (length d.history) keeps (omega arith) (ways_of cells (suc (length d.history)) d.pending) k.pairs;
       apart = k.apart;

@@ -1,8 +1,9 @@
 -- The steps of a record: that they may be made, and what they leave of the seat.
-use Rattle.std.proofs.Common.{◌≡◌, ◌⊎◌, inl, inr, ℕ, ◌≤◌, suc, Bool, true, false, true≢false, cond, List, [], ◌∷◌, ◌++◌, length, refl, sym, subst, ap, ◌∙◌, eq-eqb, Option, Some, None}
+use Rattle.std.proofs.Common.{◌≡◌, ◌⊎◌, inl, inr, ℕ, ◌≤◌, suc, ◌||◌, Bool, true, false, true≢false, cond, List, [], ◌∷◌, ◌++◌, length, refl, sym, subst, ap, ◌∙◌, eq-eqb, Option, Some, None}
 use Rattle.std.specs.FinSet as set
 use Rattle.wp_model.specs.declared.entry.Entry.{Entry}
 use Rattle.wp_model.specs.Decision.{version_in}
+use Rattle.wp_model.specs.History.{changes_of, is_changed}
 use Rattle.wp_model.specs.Legal.{IsLegal}
 use Rattle.wp_model.specs.PreparedSets.{PreparedSets}
 use Rattle.wp_model.specs.Versions.{version_at}
@@ -13,13 +14,13 @@ use Rattle.wp_core.specs.Cache.{cache_place, cached, pair_at}
 use Rattle.wp_core.specs.Changes.{held_with}
 use Rattle.wp_core.specs.Effects.{publishes, with_entry}
 use Rattle.wp_model.specs.Record.{IsOneRecord}
-use Rattle.wp_core.specs.Entries.{next_of, HasVersionsAt}
+use Rattle.wp_core.specs.Entries.{next_of, transaction_of, HasVersionsAt}
 use Rattle.wp_core.specs.Lists.{IsIn}
-use Rattle.wp_core.specs.Notes.{ends}
+use Rattle.wp_core.specs.Notes.{ends, is_name}
 use Rattle.wp_core.specs.Steps.{Step, make_pending, log_pending, close_log, drop_pending, add_prepared, take_pending_prepared, add_versions, take_versions, store_published, note}
 use Rattle.wp_core.specs.States.{Content, WriteState, StoreState, writes, prepared, store}
 use Rattle.wp_core.specs.Turns.{write_turn}
-use Rattle.wp_core.specs.Views.{Fact, words_stay, versions_in_memory, versions_nowhere, number_in_heap, number_not_in_heap, pair_delayed, pair_not_delayed, none_waits, undecided_at, prior_values, unprepared}
+use Rattle.wp_core.specs.Views.{Fact, words_stay, versions_in_memory, versions_nowhere, number_in_heap, number_not_in_heap, pair_delayed, pair_not_delayed, none_waits, undecided_at, prior_values, unprepared, unchanged}
 use Rattle.wp_core.specs.World.{Actor, World}
 use Rattle.wp_model.proofs.Numbers.{in_inserted, in_removed}
 use Rattle.wp_rule.specs.Knows.{Noted}
@@ -39,6 +40,7 @@ use Rattle.wp_shared.proofs.Tables.{held_state}
 use Rattle.wp_commits.specs.declared.way.Way.TheVariants.{InWord, Delayed}
 use Rattle.wp_commits.specs.Ways.{way_of, IsEntered}
 use Rattle.wp_commits.proofs.Flags.{note_ends_none}
+use Rattle.wp_records.proofs.Facts.{neither}
 use Rattle.wp_records.specs.Stages.{is_of_versions, is_of_heap, is_of_pending, is_over, holding, as_failed, as_published, HasPrepare, IsUnlogged, IsNext, IsInPlace}
 use Rattle.wp_records.proofs.Words.{uncached}
 
@@ -48,7 +50,7 @@ module _ (p : Place) (so : World → Type 0) (s u : SeatState) (same : (u.table 
   abbrev after : Actor
   after = actor_after (steps m.world) m.world p.by s.knows
 
-  -- it goes on from this actor, of which it has other tables and notes
+  -- it goes on from this actor, of which it has other states and notes
   pub goes_from : (from : Actor) (test : Fact → Bool) (held : List Content) → from.notes ≡ s.knows.notes → after ≡ record from { held = after.held; notes = after.notes } → after.held ≡ held → ((fact : Fact) → test fact ≡ false → Outlasts fact (steps m.world) m.world p.by s.knows)
       → GoesOn test held s.turns (record s { knows = from }) u
   goes_from from test held notes form left stays = record {
@@ -132,10 +134,10 @@ dropped p so s u same t d held is m =
 -- ---- the log call
 
 log_ends : EndsNothing log_pending
-log_ends = record { guard = λ turn. refl; place = λ words place. refl; words = refl; delayed_flag = refl; old_flag = refl; pending = refl; adds = refl; takes = refl; prepared = refl; unprepared = refl; delays = refl; transaction = λ history name. refl; direct = refl; moves = refl; replaces = refl; installing = refl }
+log_ends = record { guard = λ turn. refl; place = λ words place. refl; words = refl; delayed_flag = refl; old_flag = refl; pending = refl; adds = refl; takes = refl; prepared = refl; unprepared = refl; delays = refl; transaction = λ history name. refl; changes = λ history key. refl; direct = refl; moves = refl; replaces = refl; installing = refl }
 
 close_ends : EndsNothing close_log
-close_ends = record { guard = λ turn. refl; place = λ words place. refl; words = refl; delayed_flag = refl; old_flag = refl; pending = refl; adds = refl; takes = refl; prepared = refl; unprepared = refl; delays = refl; transaction = λ history name. refl; direct = refl; moves = refl; replaces = refl; installing = refl }
+close_ends = record { guard = λ turn. refl; place = λ words place. refl; words = refl; delayed_flag = refl; old_flag = refl; pending = refl; adds = refl; takes = refl; prepared = refl; unprepared = refl; delays = refl; transaction = λ history name. refl; changes = λ history key. refl; direct = refl; moves = refl; replaces = refl; installing = refl }
 
 pub may_log : (p : Place) (a : Actor) (t : WriteState) → a.held ≡ writes t ∷ [] → IsUnlogged t → MayMake p a (λ w. log_pending ∷ [])
 may_log p a t held k = known_made p a log_pending tt (record { state = t; held = first_held a (writes t) [] held; so_is = (k.some, k.unlogged, k.running) })
@@ -285,6 +287,9 @@ publish_ends history words entry others none_waits e = absurd (true≢false e)
 publish_ends history words entry others (undecided_at name p) e = e
 publish_ends history words entry others (prior_values name p batch) e = e
 publish_ends history words entry others (unprepared name) e = e
+publish_ends history words entry others (unchanged name key n) e =
+    let parts = neither (is_changed (changes_of history entry) key) (is_name (transaction_of history entry) name) e in
+    λ i. parts.1 i || parts.0 i
 publish_ends history words entry others other e = refl
 
 -- the pair that its word has is the version's decision

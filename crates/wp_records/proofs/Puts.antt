@@ -4,7 +4,7 @@ use Rattle.std.specs.Prelude.{Result, Ok, Err}
 use Rattle.wp_model.specs.declared.entry.Entry.{Entry}
 use Rattle.wp_outside.specs.Faults.{Rose}
 use Rattle.wp_wal.specs.Wal.{WalState, LosesNothingAt}
-use Rattle.wp_core.specs.Entries.{pair_by, transaction_of}
+use Rattle.wp_core.specs.Entries.{pair_by}
 use Rattle.wp_core.specs.Lists.{IsIn}
 use Rattle.wp_core.specs.Sound.Views.{guarded_by}
 use Rattle.wp_core.specs.States.{WriteState, Content, writes}
@@ -13,7 +13,7 @@ use Rattle.wp_core.specs.World.{Participant, World}
 use Rattle.wp_rule.specs.Knows.{Noted}
 use Rattle.wp_parts.specs.Log.{LogState}
 use Rattle.wp_shared.specs.Seats.{SharedState, SeatState, Stands}
-use Rattle.wp_shared.specs.Notes.{is_about, with_participant, noting, GoesOn}
+use Rattle.wp_shared.specs.Notes.{is_ended_by, with_participant, noting, GoesOn}
 use Rattle.wp_shared.proofs.Goes.{holds, notes}
 use Rattle.wp_commits.specs.declared.way.Way.{Way}
 use Rattle.wp_commits.specs.Bound.{bound_with, bound_for}
@@ -66,7 +66,7 @@ fails log mid left unlogged closed back rose passed durable =
 
 -- ---- a stage before
 
--- the table with nothing pending
+-- the state with nothing pending
 abbrev pub in_step : WriteState → WriteState
 in_step t = record t { pending = []; logged = false }
 
@@ -169,7 +169,7 @@ module _ {D : Type 0} (z : SharedState D) (s t new : SeatState) (log left : LogS
 
 -- ---- entries were put
 
-may_end_not : (history : List Entry) (entry : Entry) (fact : Fact) → guarded_by fact ≡ None → is_about (transaction_of history entry) fact ≡ false → may_end history entry fact ≡ false
+may_end_not : (history : List Entry) (entry : Entry) (fact : Fact) → guarded_by fact ≡ None → is_ended_by history entry fact ≡ false → may_end history entry fact ≡ false
 may_end_not history entry fact guard about = λ i. unguarded fact guard i || about i
 
 -- no entry is left to put

@@ -4,7 +4,7 @@ use Rattle.std.specs.Prelude.{Result}
 use Rattle.wp_model.specs.declared.entry.Entry.{Entry}
 use Rattle.wp_model.specs.Record.{IsOneRecord}
 use Rattle.wp_core.specs.States.{WriteState}
-use Rattle.wp_core.specs.Views.{words_stay}
+use Rattle.wp_core.specs.Views.{words_stay, unprepared}
 use Rattle.wp_core.specs.World.{Participant, Actor}
 use Rattle.wp_rule.specs.Knows.{Noted}
 use Rattle.wp_parts.specs.Log.{LogState}
@@ -27,9 +27,9 @@ pub cleared_holds : {D : Type 0} (z : SharedState D) (s t : SeatState) (log : Lo
     → ((bound : ℕ) (words : List ℕ) → Noted s.knows (words_stay bound words) → (later : ℕ) × Noted t.knows (words_stay later words)) → HoldsPending z t log
 cleared_holds z s t log h k keeps = still_holds z s t log is_of_words h k (words_still s.knows t.knows (length log.state.history) keeps h.words)
 
--- what may be put may be put still, by the same participant
-pub may_still : (a b : Actor) (history entries : List Entry) → b.participant ≡ a.participant → MayPut a history entries → MayPut b history entries
-may_still a b history entries same may = record { legal = may.legal; owned = own_still a b (ap (λ (x : Participant). x.direct) same) (ap (λ (x : Participant). x.transactions) same) history entries may.owned }
+-- what may be put may be put still, by the same participant, which has noted still what it noted of names
+pub may_still : (a b : Actor) (history entries : List Entry) → b.participant ≡ a.participant → ((name : List ℕ) → Noted a (unprepared name) → Noted b (unprepared name)) → MayPut a history entries → MayPut b history entries
+may_still a b history entries same noted may = record { legal = may.legal; owned = own_still a b (ap (λ (x : Participant). x.direct) same) (ap (λ (x : Participant). x.transactions) same) noted history entries may.owned }
 
 module _ {D : Type 0} (z : SharedState D) (s t : SeatState) (log mid : LogState) (es : List Entry) (b : IsBegun z s log es t mid) where
   pending_is : mid.state.pending ≡ es
@@ -44,7 +44,7 @@ module _ {D : Type 0} (z : SharedState D) (s t : SeatState) (log mid : LogState)
   pub begun_may : MayPut s.knows log.state.history es → MayPut t.knows mid.state.history mid.state.pending
   begun_may may =
       subst (λ (x : List Entry × List Entry). MayPut t.knows x.0 x.1) (λ i. (sym history_is i, sym pending_is i))
-      (may_still s.knows t.knows log.state.history es (ap (λ (x : SeatState). x.knows.participant) b.seat.same) may)
+      (may_still s.knows t.knows log.state.history es (ap (λ (x : SeatState). x.knows.participant) b.seat.same) (λ name there. b.seat.noted (unprepared name) refl there) may)
 
   pub begun_apart : (cells : ℕ) → AreApart cells (ways_of cells (suc (length log.state.history)) es) → AreApart cells (ways_of cells (suc (length mid.state.history)) mid.state.pending)
   begun_apart cells apart = subst (λ (x : List Entry × List Entry). AreApart cells (ways_of cells (suc (length x.0)) x.1)) (λ i. (sym history_is i, sym pending_is i)) apart

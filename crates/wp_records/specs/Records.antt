@@ -10,7 +10,7 @@ use Rattle.wp_gatelog.specs.Moments.{Leaves}
 use Rattle.wp_wal.specs.Spelling.{IsLogOrNextAt}
 use Rattle.wp_wal.specs.Wal.{WalState, LosesNothingAt}
 use Rattle.wp_core.specs.Conditions.{HasTransaction}
-use Rattle.wp_core.specs.Entries.{transaction_of, changes_under}
+use Rattle.wp_core.specs.Entries.{transaction_of, changes_under, written}
 use Rattle.wp_core.specs.Lists.{IsIn}
 use Rattle.wp_core.specs.Sound.Views.{guarded_by}
 use Rattle.wp_core.specs.States.{WriteState, writes}
@@ -19,7 +19,7 @@ use Rattle.wp_core.specs.World.{Transaction, Actor, Participant, World}
 use Rattle.wp_rule.specs.Knows.{KnowsHeld, Noted}
 use Rattle.wp_cuts.specs.Cut.{Cut, IsCut}
 use Rattle.wp_parts.specs.Log.{LogState}
-use Rattle.wp_shared.specs.Notes.{is_about}
+use Rattle.wp_shared.specs.Notes.{is_ended_by}
 use Rattle.wp_shared.specs.Seats.{SharedState, SeatState, Stands}
 use Rattle.wp_commits.specs.declared.way.Way.{Way}
 use Rattle.wp_commits.specs.Bound.{bound_for}
@@ -30,9 +30,10 @@ use Rattle.wp_records.specs.Writing.{HoldsWrite}
 
 -- ---- before
 
--- The keys that an entry behind this history needs are held for the seat, and its transaction is the seat's, and has them locked.
+-- The keys of a Write are held for the seat. The transaction that an entry behind this history is of is the seat's, and has the keys
+-- locked that the entry needs.
 pub record OwnsEntry (a : Actor) (history : List Entry) (entry : Entry) : Type 0 where
-  pub keys : (key : List ℕ) → is_changed (changes_under history entry) key ≡ true → KnowsHeld a key
+  pub keys : (key : List ℕ) → is_changed (written entry) key ≡ true → KnowsHeld a key
   pub transaction : (name : List ℕ) → transaction_of history entry ≡ Some name
       → (x : Transaction) × HasTransaction a name x × ((key : List ℕ) → is_changed (changes_under history entry) key ≡ true → set.contains x.locked key ≡ true)
 
@@ -57,10 +58,10 @@ numbers_behind n (entry ∷ entries) = suc n ∷ numbers_behind (suc n) entries
 abbrev pub putting : List Entry → List Entry → Participant → Participant
 putting history entries p = record p { seen = history ++ entries; own = p.own ++ numbers_behind (length history) entries }
 
--- the fact is about the transaction of none of the entries behind this history
+-- the fact is about the transaction of none of the entries behind this history, and does not say that a key is unchanged that they change
 abbrev pub IsAboutNone : List Entry → List Entry → Fact → Type 0
 IsAboutNone history [] fact = Unit {0}
-IsAboutNone history (entry ∷ entries) fact = (is_about (transaction_of history entry) fact ≡ false) × IsAboutNone (history ++ entry ∷ []) entries fact
+IsAboutNone history (entry ∷ entries) fact = (is_ended_by history entry fact ≡ false) × IsAboutNone (history ++ entry ∷ []) entries fact
 
 -- Before the entries were logged, and once the bound had risen for their pairs, the seat stood in a world of the store with the write
 -- turn and with them pending behind this history, and knew that no prepared number waited to be taken out: the bound had come to the
@@ -80,8 +81,8 @@ pub record HasCleared {D : Type 0} (z : SharedState D) (old : SeatState) (histor
 
 -- The entries stand behind the history, and the seat put them there, once the bound had risen for the pairs that are kept in these
 -- ways; where one of them clears, no commit waited then that the bound had come to. What it noted without a turn it has noted still, but
--- for what was about the transaction of one of them. The bound and the words are as they were but for that, and for the entries' own
--- pairs.
+-- for what was about the transaction of one of them, or said that a key is unchanged which one changes. The bound and the words are as they
+-- were but for that, and for the entries' own pairs.
 pub record IsPutWith {D : Type 0} (z : SharedState D) (old : SeatState) (log : LogState) (cleared : List Way) (entries : List Entry) (new : SeatState) (left : LogState) : Type 0 where
   pub holds : HoldsWrite z new left
   pub same_by : new.by ≡ old.by

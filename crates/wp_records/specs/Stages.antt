@@ -9,7 +9,7 @@ use Rattle.wp_model.specs.Legal.{IsLegal}
 use Rattle.wp_core.specs.Changes.{remembers}
 use Rattle.wp_core.specs.Conditions.{IsPrepare}
 use Rattle.wp_core.specs.Effects.{with_entry, publishes}
-use Rattle.wp_core.specs.Entries.{next_of, pair_by, transaction_of}
+use Rattle.wp_core.specs.Entries.{next_of, pair_by}
 use Rattle.wp_core.specs.Sound.Views.{guarded_by}
 use Rattle.wp_core.specs.States.{WriteState, writes}
 use Rattle.wp_core.specs.Views.{Fact, versions_in_memory, versions_nowhere, number_in_heap, number_not_in_heap, pair_delayed, pair_not_delayed, none_waits, words_stay, log_failed}
@@ -19,7 +19,7 @@ use Rattle.wp_parts.specs.Log.{LogState}
 use Rattle.wp_parts.specs.Parts.{log_first}
 use Rattle.wp_shared.specs.Seats.{SharedState, SeatState}
 use Rattle.wp_shared.specs.Turns.{HoldsTurn}
-use Rattle.wp_shared.specs.Notes.{is_about, is_flag, GoesOn, KnowsWords}
+use Rattle.wp_shared.specs.Notes.{is_ended_by, is_flag, GoesOn, KnowsWords}
 use Rattle.wp_commits.specs.Ways.{way_of, ways_of, AreReady, AreApart, IsEntered, entered}
 use Rattle.wp_records.specs.declared.error.WriteError.{WriteError}
 use Rattle.wp_records.specs.declared.error.WriteError.TheVariants.{Memory, LogFault}
@@ -62,17 +62,18 @@ is_of_stage fact = is_of_pending fact || is_flag fact
 abbrev pub is_guarded : Fact → Bool
 is_guarded fact = is_some (guarded_by fact)
 
--- what the entry ends that joins this history: what is of the pending entry, and what is about its transaction
+-- what the entry ends that joins this history: what is of the pending entry, what is about its transaction, and that a key is unchanged
+-- which it changes
 abbrev pub is_over : List Entry → Entry → Fact → Bool
-is_over history entry fact = is_of_pending fact || is_about (transaction_of history entry) fact
+is_over history entry fact = is_of_pending fact || is_ended_by history entry fact
 
 -- that, or what a turn guards
 abbrev pub may_end : List Entry → Entry → Fact → Bool
-may_end history entry fact = is_guarded fact || is_about (transaction_of history entry) fact
+may_end history entry fact = is_guarded fact || is_ended_by history entry fact
 
 -- ---- the seat
 
--- the seat with this log as the one table that it holds
+-- the seat with this log as the one state that it holds
 abbrev pub holding : WriteState → SeatState → SeatState
 holding t s = record s { knows = record s.knows { held = writes t ∷ [] } }
 

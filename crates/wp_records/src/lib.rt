@@ -13,7 +13,7 @@
 //! Transactions" and "Two Phase Commit Implementation".
 //!
 //! The call is made of the stages in `stages` and `putting`, each of which says what is left of the seat. They make the steps of the
-//! machine of `wp_core` where a table changes; those that change none, and what the log call came to, stand in `steps`.
+//! machine of `wp_core` where a state changes; those that change none, and what the log call came to, stand in `steps`.
 #![tactic(auto)]
 
 mod error;

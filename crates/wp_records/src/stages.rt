@@ -202,7 +202,7 @@ pub(crate) fn put_number<D: Disk + Drop, R: Wait>(
     result
 }
 
-/// Under the prepared turn: takes the number of the pending Prepare out of the heap, if it is there. That no other prepared table has
+/// Under the prepared turn: takes the number of the pending Prepare out of the heap, if it is there. That no other prepared set has
 /// it, each world of the store shows.
 fn remove_number<D: Disk + Drop>(
     store: &Shared<D>,

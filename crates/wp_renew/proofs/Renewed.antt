@@ -102,7 +102,7 @@ beside_still old new later segment same k = record {
 
 -- ---- from the beginning on
 
--- The seat began with both turns, s0. A stage later it is s1, with what it was then but for tables and notes; the log has the table that it
+-- The seat began with both turns, s0. A stage later it is s1, with what it was then but for states and notes; the log has the state that it
 -- had, and so have the edits.
 module _ {D : Type 0} (z : SharedState D) (s0 s1 : SeatState) (e0 e1 : VersionSetState) (log0 log1 : LogState) (holds : HoldsBoth z s0 e0 log0 log0.state) (running : e0.state.halted ≡ false) (open_ : log0.state.closed ≡ false) (nothing : log0.state.pending ≡ []) (coupled : log0.state.segment ≡ e0.state.last.segment) (below : log0.state.segment.base < length log0.state.history)
     (seen : s0.knows.participant.seen ≡ log0.state.history) (whole : log0.state.log ≡ log0.state.history) (w0 : (w : World) × Stands z s0 w) (is_edits : IsEdits e0) (is_log : IsLog log0) (first : GoesOnAs s0 s1 s0.knows.participant) (still : s1.knows.participant ≡ s0.knows.participant) (same_table : e1.state ≡ e0.state) (same_log : log1.state ≡ log0.state) where
@@ -330,7 +330,7 @@ module _ {D : Type 0} (z : SharedState D) (s0 s1 : SeatState) (e0 e1 : VersionSe
           carried = counted ∙ ap (λ (h : List Entry). length (undecided h)) (history_seen v last_seen);
           place = written.segment.place;
           left = held_left z s0 u v (record e0.state { last = last_edit }) k.stands (seat_still s0 u _ moved_goes) moved_seen put_still (subst (λ (t : Installed). IsIn (installed t) u.knows.held) last_table (second_held u.knows (writes now.state) (installed left.state) k.holds.turn.held));
-          state = tables_became e0 left holds.edits_of_store k.holds.edits_of_store is_edits k.still_edits last_table (k.parts ∙ ap (λ (x : Asked). parts_after x e1.parts) is ∙ (λ i. new_parts ((frozen.versions ∙ ap (λ (h : List Entry). sorted_of (unflushed h e0.state.last)) (sym last_seen)) i) ++ behind.parts i));
+          tables = tables_became e0 left holds.edits_of_store k.holds.edits_of_store is_edits k.still_edits last_table (k.parts ∙ ap (λ (x : Asked). parts_after x e1.parts) is ∙ (λ i. new_parts ((frozen.versions ∙ ap (λ (h : List Entry). sorted_of (unflushed h e0.state.last)) (sym last_seen)) i) ++ behind.parts i));
           survives = subst (SurvivesInstall e0 left) is_last moved_survived;
           log = log_became log0 now holds.log_of_store k.holds.log_of_store is_log k.still_log (k.log_table ∙ (λ i. record (same_log i) { segment = base_is i; next = None })) (
             subst (λ (x : Segment). SurvivesBeside log0 now (Some x)) (sym (ap (λ (t : WriteState). t.segment) k.log_table)) moved_beside,

@@ -1,5 +1,5 @@
 -- A renewal as a whole, from the stage that broke it off, or from all of them.
-use Rattle.std.proofs.Common.{◌≡◌, ℕ, ◌<◌, ◌≤◌, true, false, List, [], ◌∷◌, length, Option, Some, None, refl, sym, subst, ap, ◌∙◌, arith}
+use Rattle.std.proofs.Common.{◌≡◌, ℕ, ◌<◌, ◌≤◌, false, List, [], ◌∷◌, ◌++◌, length, Option, Some, None, refl, sym, subst, ap, ◌∙◌, arith}
 use Rattle.std.specs.Prelude.{Ok, Err, Result}
 use Rattle.wp_model.specs.declared.entry.Entry.{Entry}
 use Rattle.wp_model.specs.declared.segment.Segment.{Segment}
@@ -11,12 +11,12 @@ use Rattle.wp_tableset.specs.Changes.{Asked, one_part}
 use Rattle.wp_tableset.specs.declared.gone.Gone.TheVariants as gone
 use Rattle.wp_tableset.specs.Set.{TableSetState}
 use Rattle.wp_core.specs.States.{WriteState, Installed, writes, installed}
-use Rattle.wp_core.specs.Views.{frozen_stay}
+use Rattle.wp_core.specs.Views.{Event, frozen_stay, log_failed}
 use Rattle.wp_core.specs.World.{Participant, World}
 use Rattle.wp_model.proofs.Tests.{none_some}
 use Rattle.wp_rule.specs.Knows.{KnowsTables}
 use Rattle.wp_parts.specs.VersionSet.{VersionSetState, IsEdits, asked_for}
-use Rattle.wp_parts.specs.Installs.{ReadyInstallState, WrittenInstallState, IsBehind, SurvivesInstall, SurvivesWrite}
+use Rattle.wp_parts.specs.Installs.{FailedSince, ReadyInstallState, WrittenInstallState, IsBehind, SurvivesInstall, SurvivesWrite}
 use Rattle.wp_parts.specs.Log.{LogState, IsLog, with_next}
 use Rattle.wp_parts.specs.Parts.{EditsStand, LogStands}
 use Rattle.wp_shared.specs.Calls.{GoesOnAs}
@@ -27,7 +27,7 @@ use Rattle.wp_maint.specs.declared.frozen.Frozen.{Frozen}
 use Rattle.wp_maint.specs.declared.renewed.Renewed.{Renewed}
 use Rattle.wp_maint.specs.declared.renewed.RenewError.{RenewError}
 use Rattle.wp_maint.specs.declared.renewed.RenewError.TheVariants.{Memory, TablesStopped, Stopped, Nothing, TableFault, LogFault}
-use Rattle.wp_maint.specs.Calls.{IsUncalled}
+use Rattle.wp_maint.specs.Calls.{IsUncalled, found_by}
 use Rattle.wp_maint.specs.Flush.{versions_of, HasFrozen, MayPut}
 use Rattle.wp_maint.specs.Holding.{is_of_tables}
 use Rattle.wp_maint.specs.Renewal.{HoldsBoth}
@@ -42,14 +42,16 @@ use Rattle.wp_stages.proofs.StageLemmas.{beside_same}
 pub at_start : {D : Type 0} (z : SharedState D) (s u : SeatState) (e : VersionSetState) (log now : LogState) → u ≡ s → now ≡ log → HoldsBoth z u e now now.state → HoldsBoth z s e log log.state
 at_start z s u e log now same same_log holds = subst (λ (x : SeatState × LogState). HoldsBoth z x.0 e x.1 x.1.state) (λ i. (same i, same_log i)) holds
 
--- where the segment was not written the log is closed
-pub closed_by : {D : Type 0} (z : SharedState D) (s u : SeatState) (e : VersionSetState) (log now : LogState) (why : RenewError) → HasPlace z s e log (Err why) u now → now.state.closed ≡ true
-closed_by z s u e log now Memory wrong = absurd wrong
-closed_by z s u e log now (TablesStopped n) wrong = absurd wrong
-closed_by z s u e log now (Stopped n) wrong = absurd wrong
-closed_by z s u e log now Nothing wrong = absurd wrong
-closed_by z s u e log now TableFault wrong = absurd wrong
-closed_by z s u e log now LogFault k = ap (λ (t : WriteState). t.closed) k.state
+-- where the segment was not written, the seat remembers that since this past
+pub failed_since : {D : Type 0} (z : SharedState D) (s u : SeatState) (e : VersionSetState) (log now : LogState) (why : RenewError) (before past : List Event) → before ≡ s.knows.participant.past → past ≡ u.knows.participant.past → HasPlace z s e log (Err why) u now → FailedSince before past
+failed_since z s u e log now Memory before past was is wrong = absurd wrong
+failed_since z s u e log now (TablesStopped n) before past was is wrong = absurd wrong
+failed_since z s u e log now (Stopped n) before past was is wrong = absurd wrong
+failed_since z s u e log now Nothing before past was is wrong = absurd wrong
+failed_since z s u e log now TableFault before past was is wrong = absurd wrong
+failed_since z s u e log now LogFault before past was is k =
+    let found = found_by z s u e.state k.found in
+    (found ∷ [], [], is ∙ ap (λ (x : SeatState). x.knows.participant.past) k.goes.same ∙ ap (λ (events : List Event). events ++ found ∷ log_failed [] ∷ []) (sym was))
 
 module _ {D : Type 0} (z : SharedState D) (s0 : SeatState) (e0 : VersionSetState) (log0 : LogState) (holds : HoldsBoth z s0 e0 log0 log0.state) (running : e0.state.halted ≡ false) (open_ : log0.state.closed ≡ false) (nothing : log0.state.pending ≡ []) (coupled : e0.state.last.segment ≡ log0.state.segment) (below : log0.state.segment.base < length log0.state.history)
     (seen : s0.knows.participant.seen ≡ log0.state.history) (whole : log0.state.log ≡ log0.state.history) (w0 : (w : World) × Stands z s0 w) (in_step : KnowsTables s0.knows e0.state.last) (is_edits : IsEdits e0) (is_log : IsLog log0)

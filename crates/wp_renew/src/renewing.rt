@@ -112,7 +112,7 @@ fn renew_in<D: Disk + Drop, R: Wait>(
     let written = match write_segment(store, seat, edits, log, &segment) {
         Ok(written) => written,
         Err(why) => {
-            tabled.give_up(log);
+            tabled.give_up(seat.words());
             return Err(why);
         }
     };

@@ -7,7 +7,7 @@ use Rattle.wp_rule.specs.Knows.{Noted}
 use Rattle.wp_shared.specs.Notes.{no_fact, is_under, noting, GoesOn}
 use Rattle.wp_shared.specs.Seats.{SharedState, SeatState, IsFree}
 
--- a seat with these tables, turns and notes goes on with them
+-- a seat with these states, turns and notes goes on with them
 pub goes_with : (s t : SeatState) (held : List Content) (turns : List ℕ) (notes : List Fact) → t.table ≡ s.table → t.by ≡ s.by → t.turns ≡ turns → t.knows ≡ record s.knows { held = held; notes = notes }
     → t ≡ record s { knows = record s.knows { held = held; notes = t.knows.notes }; turns = turns }
 goes_with s t held turns notes table by at is =
@@ -19,7 +19,7 @@ module _ (test : Fact → Bool) (s t u : SeatState) where
   pub stays : GoesOn test s.knows.held s.turns s s
   stays = record { same = refl; noted = λ fact other there. there }
 
-  -- only its tables changed
+  -- only its states changed
   pub holds : (held : List Content) → t ≡ record s { knows = record s.knows { held = held } } → GoesOn test held s.turns s t
   holds held is = record {
     same = is ∙ ap (λ (n : List Fact). record s { knows = record s.knows { held = held; notes = n } }) (sym (ap (λ (x : SeatState). x.knows.notes) is));

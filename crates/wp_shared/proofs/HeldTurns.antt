@@ -4,7 +4,7 @@ use Rattle.atomic_table.specs.Table.{Me, rest}
 use Rattle.wp_model.specs.declared.entry.Entry.{Entry}
 use Rattle.wp_core.specs.Lists.{IsIn}
 use Rattle.wp_core.specs.Turns.{Turn}
-use Rattle.wp_core.specs.Views.{Fact, passed, in_old_commits, apart, words_stay, has_left, versions_in_memory, versions_nowhere, number_in_heap, number_not_in_heap, pair_delayed, pair_not_delayed, none_waits, undecided_at, prior_values, unprepared, direct_free, tables_stay, live_listed, nothing_flushed, frozen_stay, delayed_flag_stays, old_flag_stays}
+use Rattle.wp_core.specs.Views.{Fact, passed, in_old_commits, apart, words_stay, has_left, versions_in_memory, versions_nowhere, number_in_heap, number_not_in_heap, pair_delayed, pair_not_delayed, none_waits, undecided_at, prior_values, unprepared, direct_free, unchanged, locks_stay, tables_stay, live_listed, nothing_flushed, frozen_stay, delayed_flag_stays, old_flag_stays}
 use Rattle.wp_core.specs.World.{Actor, content_of}
 use Rattle.wp_core.specs.Changes.{turn_index, held_without}
 use Rattle.wp_core.specs.Notes.{ends}
@@ -93,6 +93,8 @@ give_ends history words turn (undecided_at name p) e = refl
 give_ends history words turn (prior_values name p batch) e = refl
 give_ends history words turn (unprepared name) e = refl
 give_ends history words turn (direct_free key) e = refl
+give_ends history words turn (unchanged name key n) e = refl
+give_ends history words turn (locks_stay name p keys) e = refl
 give_ends history words turn (tables_stay versions floor) e = rw e refl
 give_ends history words turn (live_listed floor listed) e = refl
 give_ends history words turn nothing_flushed e = rw e refl
@@ -104,7 +106,7 @@ module _ {D : Type 0} (z : SharedState D) (s : SeatState) (value : TurnValue D) 
   pub carried : (cs : List (ℕ × TurnValue D)) → AllAway cs → turns_of cs ≡ s.turns → cs ≡ (turn_index turn, part.Away) ∷ rest cs
   carried cs away t = away_carried cs (turn_index turn) h.others away (t ∙ h.last_taken)
 
-  -- the value is the turn's table as the seat left it
+  -- the value is the turn's state as the seat left it
   is_left : (a : Actor) → a ≡ s.knows → IsLeft content (tells z.first) turn a value
   is_left a same = record { state = h.state; held = subst (λ (x : Actor). IsIn h.state x.held) (sym same) h.held; of_turn = sym h.of_turn; is_part = (h.is, h.told) }
 

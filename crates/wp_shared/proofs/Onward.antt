@@ -132,7 +132,7 @@ holds_on h k = record {
   turns = ap (λ (x : SeatState). x.turns) k.same ∙ h.turns;
 }
 
--- its table changed
+-- its state changed
 pub holds_as : {D : Type 0} {z : SharedState D} {s t : SeatState} {test : Fact → Bool} {before table : Content} {others : List Content} {beneath : List ℕ} → HoldsTurn z s before others beneath → GoesOn test (table ∷ others) s.turns s t → turn_of before ≡ turn_of table → HoldsTurn z t table others beneath
 holds_as {beneath = beneath} h k same = record {
   same_table = ap (λ (x : SeatState). x.table) k.same ∙ h.same_table;

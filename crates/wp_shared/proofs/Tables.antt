@@ -1,4 +1,4 @@
--- The table of a turn in a world, and what a seat knows of it.
+-- The state of a turn in a world, and what a seat knows of it.
 use Rattle.std.proofs.Common.{◌≡◌, ◌⊎◌, inl, inr, ℕ, ◌≤◌, List, [], length, slice_index, refl, sym, subst, ap, ◌∙◌, Some, None, Bool, true, false, true≢false, ◌/◌, ◌%◌, ◌*◌, ◌+◌, arith}
 use Rattle.std.proofs.lemmas.Bool.{cases_lt}
 use Rattle.std.proofs.Math.Nat.{mod-le}
@@ -42,9 +42,9 @@ in_place t last (inl same) free = same
 in_place t last (inr waits) (inl none) = absurd (none_some t.next last none waits.0)
 in_place t last (inr waits) (inr closed) = absurd (true≢false (sym closed ∙ waits.1))
 
--- ---- which table it is
+-- ---- which state it is
 
--- a table that the seat holds is the world's
+-- a state that the seat holds is the world's
 pub held_state : (p : Place) (a : Actor) (w : World) (table : Content) → IsAt p a w → IsIn table a.held → IsStateOf w table
 held_state p a w table k held = is_state w table (held_is p a w table k held).1
 

@@ -1,4 +1,4 @@
--- A turn that is taken or given, as the table of its value.
+-- A turn that is taken or given, as the state of its value.
 use Rattle.std.proofs.Common.{◌≡◌, inl, inr, ℕ, suc, ◌<◌, ◌==◌, nat_lt, not, cond, true, false, List, [], ◌∷◌, ◌++◌, drop, eq-eqb, ne_eqb, ltb-true, refl, sym, ap, subst, ◌∙◌, Some, arith}
 use Rattle.wp_model.specs.declared.entry.Entry.{Entry}
 use Rattle.wp_core.specs.Changes.{turn_index, held_without, sees}

@@ -22,7 +22,7 @@ abbrev pub all_joined : Actor → List SeatState → Actor
 all_joined a seats = record a { joined = map participant_of seats ++ a.joined }
 
 -- What is left of the store: its world, in which no turn is held and whose only participants are those of the seats, and behind
--- each turn its table. The world is sound with these participants alone.
+-- each turn its state. The world is sound with these participants alone.
 abbrev pub Remains : {D : Type 0} → SharedState D → List SeatState → (Turn → TurnValue D) → Type 0
 Remains z [] parts = ⊥
 Remains z (first ∷ others) parts = Leaves content (tells z.first) z.first (place_at z 0) (all_joined first.knows others) parts

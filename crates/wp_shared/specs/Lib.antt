@@ -5,5 +5,6 @@ pub mod Notes
 pub mod Turns
 pub mod Clients
 pub mod Calls
+pub mod Devices
 pub mod Ending
 pub mod Ended

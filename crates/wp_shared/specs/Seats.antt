@@ -33,7 +33,7 @@ participant_of s = s.knows.participant
 abbrev pub seen_by : SeatState → List Entry
 seen_by s = s.knows.participant.seen
 
--- the tables of the turns that it holds
+-- the states of the turns that it holds
 abbrev pub held_by : SeatState → List Content
 held_by s = s.knows.held
 

@@ -36,12 +36,12 @@ turn_rank snapshots_turn = 3
 turn_rank store_turn = 4
 turn_rank locks_turn = 5
 
--- the turn comes behind each of those whose tables are held
+-- the turn comes behind each of those whose states are held
 abbrev pub comes_last : Turn → List Content → Bool
 comes_last turn [] = true
 comes_last turn (first ∷ others) = nat_lt (turn_rank (turn_of first)) (turn_rank turn) && comes_last turn others
 
--- ---- what a seat knows of a turn's table
+-- ---- what a seat knows of a turn's state
 
 -- Once it took the turn: in the log nothing is pending, and it noted the words; a flag is 0 exactly where there is nothing; and
 -- the tables are those of the last edit.
@@ -64,7 +64,7 @@ KnowsToGive a (installed e) = KnowsTables a e.last
 
 -- ---- what lies in a turn's slot
 
--- The turn was free and is the seat's now. The value is the turn's table, which the seat has, with what the turn guards besides
+-- The turn was free and is the seat's now. The value is the turn's state, which the seat has, with what the turn guards besides
 -- as notes. All is so as it has to be to give it.
 pub record TookPart {D : Type 0} (z : SharedState D) (turn : Turn) (old new : SeatState) (part : TurnValue D) : Type 0 where
   pub world : World
@@ -76,7 +76,7 @@ pub record TookPart {D : Type 0} (z : SharedState D) (turn : Turn) (old new : Se
   pub knows : new.knows ≡ with_turn turn world old.knows
   pub stands : (w : World) × Stands z new w
 
--- The value may go home: it is the table of the turn, which was taken last, as the seat left it, and the turn may be given.
+-- The value may go home: it is the state of the turn, which was taken last, as the seat left it, and the turn may be given.
 pub record MayGivePart {D : Type 0} (z : SharedState D) (turn : Turn) (s : SeatState) (part : TurnValue D) : Type 0 where
   pub state : Content
   pub is : content part ≡ Some state
@@ -87,7 +87,7 @@ pub record MayGivePart {D : Type 0} (z : SharedState D) (turn : Turn) (s : SeatS
   pub last_taken : s.turns ≡ turn_index turn ∷ others
   pub may : MayStep (place_at z s.by) s.knows (give_turn turn)
 
--- The turn is given: the seat has its table no more, nor what it noted under the turn.
+-- The turn is given: the seat has its state no more, nor what it noted under the turn.
 pub record GavePart {D : Type 0} (z : SharedState D) (turn : Turn) (old new : SeatState) : Type 0 where
   pub same_table : new.table ≡ old.table
   pub same_by : new.by ≡ old.by
@@ -98,15 +98,15 @@ pub record GavePart {D : Type 0} (z : SharedState D) (turn : Turn) (old new : Se
 
 -- ---- a turn
 
--- A live seat of the store took the table's turn last, and has the table as it left it. Before, it had taken the turns beneath, and
--- has their tables.
+-- A live seat of the store took the state's turn last, and has the state as it left it. Before, it had taken the turns beneath, and
+-- has their states.
 pub record HoldsTurn {D : Type 0} (z : SharedState D) (s : SeatState) (table : Content) (others : List Content) (beneath : List ℕ) : Type 0 where
   pub same_table : s.table ≡ z.table
   pub live : s.knows.live ≡ true
   pub held : s.knows.held ≡ table ∷ others
   pub turns : s.turns ≡ turn_index (turn_of table) ∷ beneath
 
--- The seat took the table's turn, which was free, with the table, as a reached world had it. It noted what the turn guards besides.
+-- The seat took the state's turn, which was free, with the state, as a reached world had it. It noted what the turn guards besides.
 pub record Taken {D : Type 0} (z : SharedState D) (old new : SeatState) (table : Content) : Type 0 where
   pub world : World
   pub before : Stands z old world
@@ -136,7 +136,7 @@ pub record TookLog {D : Type 0} (z : SharedState D) (old new : SeatState) (log :
   pub stands : Stands z new world
   pub is : world.writes ≡ log.state
 
--- The turn is given: the seat has its table no more, nor what it noted under the turn. It is free where it held no other.
+-- The turn is given: the seat has its state no more, nor what it noted under the turn. It is free where it held no other.
 pub record Given {D : Type 0} (z : SharedState D) (turn : Turn) (old new : SeatState) (others : List Content) (beneath : List ℕ) : Type 0 where
   pub goes : GoesOn (is_under turn) (held_without others turn) beneath old new
   pub free : held_without others turn ≡ [] → beneath ≡ [] → IsFree z.table new

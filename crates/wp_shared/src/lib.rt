@@ -7,7 +7,7 @@
 //!
 //! - `Shared::new`: the values go behind the turns as they were opened, and the first seat is made.
 //! - `Shared::take_turn`, `take_log` and `give_turn`: a turn with the value behind it. A value goes home as its holder left the
-//!   turn's table.
+//!   turn's state.
 //! - `Shared::published`, `max`, `word`, and in `steps` every load and store for the crates above, whose calls are made of them.
 //! - `Shared::note` and `learn`: what one seat has seen, for another one to have seen too.
 //! - `Shared::seat` and `finish`: the first seat makes the others, and at the end all are handed in for the history and the devices.

@@ -109,7 +109,7 @@ impl<D: Disk + Drop> Shared<D> {
         log
     }
 
-    /// Gives the turn that was taken last, with the value that was taken with it, as the seat left its table.
+    /// Gives the turn that was taken last, with the value that was taken with it, as the seat left its state.
     pub fn give_turn<G: BehindTurn<TurnValue<D>>>(&self, seat: &mut Seat<D>, value: Box<G>)
         requires holds { (others : List Content) × (beneath : List ℕ) × HoldsTurn self.now seat.old (G.state value.value) others beneath }
         requires of_store { G.is_of self.now.first value.value }

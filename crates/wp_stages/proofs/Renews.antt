@@ -1,5 +1,5 @@
 -- The steps of a renewal, as the seat knows them that holds both turns.
-use Rattle.std.proofs.Common.{◌≡◌, ◌≢◌, inr, ℕ, true, false, true≢false, List, [], ◌∷◌, ◌++◌, append-nil, length, Option, Some, None, IfSome, unwrap_or, refl, sym, ap, ◌∙◌}
+use Rattle.std.proofs.Common.{◌≡◌, ◌≢◌, inr, ℕ, ◌<◌, true, false, true≢false, List, [], ◌∷◌, ◌++◌, append-nil, length, Option, Some, None, IfSome, unwrap_or, refl, sym, ap, ◌∙◌}
 use Rattle.wp_core.specs.Changes.{held_with}
 use Rattle.wp_core.specs.Effects.{with_failed}
 use Rattle.wp_core.specs.Lists.{IsIn}
@@ -45,7 +45,7 @@ log_now opened t max k nothing = k.log ∙ (ap (λ (xs : List Entry). t.history 
 
 -- ---- the steps
 
--- the seat has both tables
+-- the seat has both states
 module _ (p : Place) (a : Actor) (d : WriteState) (t : Installed) (held : a.held ≡ writes d ∷ installed t ∷ []) where
   log_held : IsIn (writes d) a.held
   log_held = first_held a (writes d) (installed t ∷ []) held
@@ -56,8 +56,8 @@ module _ (p : Place) (a : Actor) (d : WriteState) (t : Installed) (held : a.held
   pub may_write : (place : ℕ) → d.pending ≡ [] → d.closed ≡ false → d.next ≡ None → place ≢ d.segment.place → MayMake p a (λ w. write_segment place ∷ [])
   may_write place nothing open_ none apart = known_made p a (write_segment place) tt (record { state = d; held = log_held; so_is = (nothing, open_, none, apart) })
 
-  pub may_close : d.closed ≡ false → d.pending ≡ [] → d.next ≡ None → MayMake p a (λ w. close_log ∷ [])
-  may_close open_ nothing none = known_made p a close_log tt (record { state = d; held = log_held; so_is = (open_, inr (nothing, none)) })
+  pub may_close : d.closed ≡ false → d.pending ≡ [] → d.next ≡ None → d.segment.base < length d.history → MayMake p a (λ w. close_log ∷ [])
+  may_close open_ nothing none below = known_made p a close_log tt (record { state = d; held = log_held; so_is = (open_, inr (nothing, none, below)) })
 
   pub may_renew : (edit : InstalledEdit) → KnowsRenewed a d t edit → MayMake p a (λ w. renew edit ∷ [])
   may_renew edit known = known_made p a (renew edit) tt (record { state = d; held = log_held; so_is = record { state = t; held = tables_held; so_is = known } })
@@ -72,7 +72,7 @@ module _ (p : Place) (a : Actor) (d : WriteState) (t : Installed) (held : a.held
   pub may_stop : d.pending ≡ [] → d.closed ≡ false → d.next ≢ Some t.last.segment → t.halted ≡ true → MayMake p a (λ w. stop_log ∷ [])
   may_stop nothing open_ other halted = known_made p a stop_log tt (record { state = d; held = log_held; so_is = record { state = t; held = tables_held; so_is = (nothing, open_, other, halted) } })
 
--- what each leaves of the seat is told by `goes_from`, as for the steps of a flush: the held tables by `held_with`, the past by the event,
+-- what each leaves of the seat is told by `goes_from`, as for the steps of a flush: the held states by `held_with`, the past by the event,
 -- the notes by what ends none of them but `nothing_flushed`, which an edit ends
 renew_ends : (history : List Entry) (words : ℕ) (edit : InstalledEdit) (fact : Fact) → is_of_flushed fact ≡ false → ends history words (renew edit) fact ≡ false
 renew_ends history words edit nothing_flushed e = absurd (true≢false e)
@@ -182,7 +182,7 @@ same_failed a b d r t one other e is = is ∙ ap (λ (x : Installed). with_faile
 -- ---- the log was closed before
 
 closed_ends : EndsNothing find_log_closed
-closed_ends = record { guard = λ turn. refl; place = λ words place. refl; words = refl; delayed_flag = refl; old_flag = refl; pending = refl; adds = refl; takes = refl; prepared = refl; unprepared = refl; delays = refl; transaction = λ history name. refl; direct = refl; moves = refl; replaces = refl; installing = refl }
+closed_ends = record { guard = λ turn. refl; place = λ words place. refl; words = refl; delayed_flag = refl; old_flag = refl; pending = refl; adds = refl; takes = refl; prepared = refl; unprepared = refl; delays = refl; transaction = λ history name. refl; changes = λ history key. refl; direct = refl; moves = refl; replaces = refl; installing = refl }
 
 pub may_find_closed : (p : Place) (a : Actor) (d : WriteState) → IsIn (writes d) a.held → d.closed ≡ true → MayMake p a (λ w. find_log_closed ∷ [])
 may_find_closed p a d held closed = known_made p a find_log_closed tt (record { state = d; held = held; so_is = closed })

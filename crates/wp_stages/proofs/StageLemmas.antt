@@ -94,7 +94,7 @@ beside_same log now same = record {
 -- ---- what is held
 
 module _ {D : Type 0} (z : SharedState D) (s u : SeatState) (e left : VersionSetState) (log now : LogState) (table : WriteState) (test : Fact → Bool) (holds : HoldsBoth z s e log table) where
-  -- both have other tables, and are the store's still, whatever it remembers
+  -- both have other states, and are the store's still, whatever it remembers
   pub both_on : (p : Participant) (d : WriteState) → GoesOn test (writes d ∷ installed left.state ∷ []) s.turns (with_participant p s) u → left.first ≡ e.first → now.first ≡ log.first → HoldsBoth z u left now d
   both_on p d goes edits_first log_first_is = record {
     turn = record {

@@ -30,16 +30,17 @@ pub fn write_table<D: Disk + Drop>(
     edits: &mut VersionSet<D>,
     log: &mut Log<D>,
     edit: ReadyInstall,
-) -> Result<WrittenInstall, RenewError>
+) -> Result<WrittenInstall<D>, RenewError>
     requires holds { HoldsBoth store.now seat.old edits.old log.old log.old.state }
     requires running { (edits.old.state.halted ≡ false) × (log.old.state.closed ≡ false) × (log.old.state.pending ≡ []) }
     requires ready { IsReadyFor edits.old edit }
     ensures writes { WritesTable store.now seat.old edits.old log.old edit result seat.new edits.new log.new }
+    ensures past { IfOk result (λ tabled. tabled.past ≡ seat.new.knows.participant.past) }
     ensures edits { IsEdits edits.new }
 {
     edits.devices_agree();
     log.devices_agree();
-    match edits.write_table(edit) {
+    match edits.write_table(edit, seat.words()) {
         Ok(tabled) => {
             edits.devices_agree();
             Ok(tabled)
@@ -96,7 +97,7 @@ pub fn install<D: Disk + Drop>(
     edits: &mut VersionSet<D>,
     log: &mut Log<D>,
     written: Written,
-    edit: WrittenInstall,
+    edit: WrittenInstall<D>,
 ) -> Result<Option<Arc<Table>>, RenewError>
     requires { IsTold store.now seat.old edits.old log.old written edit }
     ensures leaves { LeavesSegment store.now seat.old edits.old log.old written edit result seat.new edits.new log.new }

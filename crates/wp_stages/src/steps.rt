@@ -1,5 +1,5 @@
 //! The steps of the machine that a renewal makes, each as what it leaves of the seat.
-ghost use Rattle.std.specs.Prelude.{◌≡◌, ◌≢◌, true, false, [], ◌∷◌, length, None, Some, IfSome};
+ghost use Rattle.std.specs.Prelude.{◌≡◌, ◌≢◌, ◌<◌, true, false, [], ◌∷◌, length, None, Some, IfSome};
 ghost use Rattle.wp_core.specs.Effects.{with_failed};
 ghost use Rattle.wp_core.specs.Lists.{IsIn};
 ghost use Rattle.wp_core.specs.States.{WriteState, Installed, installed, writes};
@@ -54,7 +54,7 @@ pub(crate) fn remember_log_fault<D: Disk + Drop>(
 )
     requires seat { seat.old.table ≡ store.now.table }
     requires held { (d : WriteState) × (seat.old.knows.held ≡ writes d ∷ installed edits.now.state ∷ []) × (log.now.state ≡ record d { closed = true })
-        × (d.closed ≡ false) × (d.pending ≡ []) × (d.failed ≡ []) × (d.next ≡ None) }
+        × (d.closed ≡ false) × (d.pending ≡ []) × (d.failed ≡ []) × (d.next ≡ None) × (d.segment.base < length d.history) }
     ensures goes { GoesOn no_fact (writes log.now.state ∷ installed edits.now.state ∷ []) seat.old.turns (with_participant (with_events (log_failed [] ∷ []) seat.old.knows.participant) seat.old) seat.new }
     ensures stands { (w : World) × Stands store.now seat.new w }
 {

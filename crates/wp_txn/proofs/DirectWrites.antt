@@ -18,9 +18,8 @@ use Rattle.wp_core.specs.Notes.{ends}
 use Rattle.wp_core.specs.Steps.{lock_direct, free_direct, note}
 use Rattle.wp_core.specs.States.{locks}
 use Rattle.wp_core.specs.Turns.{locks_turn}
-use Rattle.wp_core.specs.Views.{Fact, has_left, undecided_at, prior_values, unprepared, direct_free, live_listed}
+use Rattle.wp_core.specs.Views.{Fact, has_left, undecided_at, prior_values, unprepared, direct_free, unchanged, locks_stay, live_listed}
 use Rattle.wp_core.specs.World.{Actor, Participant, World}
-use Rattle.wp_core.specs.Sound.Views.{guarded_by}
 use Rattle.wp_core.proofs.HistoryGrows.{none_is}
 use Rattle.wp_model.proofs.Keyed.{at_inserted, at_removed}
 use Rattle.wp_model.proofs.Tests.{some_none}
@@ -33,8 +32,7 @@ use Rattle.wp_rule.proofs.MayBeMade.{known_made}
 use Rattle.wp_rule.proofs.Needed.{has_locks, alone}
 use Rattle.wp_rule.proofs.Outlasting.{outlasts}
 use Rattle.wp_records.specs.Records.{numbers_behind}
-use Rattle.wp_shared.specs.Notes.{is_about}
-use Rattle.wp_shared.specs.Calls.{IsLoose, ContinuesWith, Continues, with_events}
+use Rattle.wp_shared.specs.Calls.{IsLoose, ContinuesWith, with_events}
 use Rattle.wp_shared.specs.Seats.{SharedState, SeatState, IsFree, Stands, place_at}
 use Rattle.wp_shared.specs.Turns.{HoldsTurn, Taken, Given}
 use Rattle.wp_shared.proofs.OneStep.{becomes}
@@ -54,7 +52,7 @@ use Rattle.wp_open_txns.proofs.Made.{all_made, locks_are, but_notes}
 -- ---- steps
 
 lock_ends : (key : List ℕ) → EndsNothing (lock_direct key)
-lock_ends key = record { guard = λ turn. refl; place = λ words place. refl; words = refl; delayed_flag = refl; old_flag = refl; pending = refl; adds = refl; takes = refl; prepared = refl; unprepared = refl; delays = refl; transaction = λ history name. refl; direct = refl; moves = refl; replaces = refl; installing = refl }
+lock_ends key = record { guard = λ turn. refl; place = λ words place. refl; words = refl; delayed_flag = refl; old_flag = refl; pending = refl; adds = refl; takes = refl; prepared = refl; unprepared = refl; delays = refl; transaction = λ history name. refl; changes = λ history key. refl; direct = refl; moves = refl; replaces = refl; installing = refl }
 
 -- a direct write locks what nobody holds
 pub none_there : (o : Option Holder) (client : List ℕ) → is_free_for o (Client client) ≡ true → o ≡ None
@@ -86,6 +84,8 @@ free_ends history words key (direct_free other) e = e.1
 free_ends history words key (undecided_at other p) e = refl
 free_ends history words key (prior_values other p batch) e = refl
 free_ends history words key (unprepared other) e = refl
+free_ends history words key (unchanged name other n) e = refl
+free_ends history words key (locks_stay name p keys) e = refl
 free_ends history words key (live_listed floor listed) e = refl
 free_ends history words key (has_left p) e = refl
 free_ends history words key other e = let n = e.0 in absurd cc
@@ -126,7 +126,7 @@ module _ {D : Type 0} (z : SharedState D) (old : SeatState) (t : LockState) (key
     abbrev ending : Actor → Actor
     ending a = record (ending_direct (without_key t key) a) { notes = r.knows.notes }
 
-    -- it holds the tables without the key
+    -- it holds the locks without the key
     pub ended_holds : IsFree z.table old → (m : LockState) → m ≡ without_key t key → HoldsTurn z r (locks m) [] []
     ended_holds free m same = holds_tables (ending s.knows) (without_key t key) m (holds_alone free k) same without.seat refl refl
 
@@ -146,12 +146,6 @@ no_direct : (notes : List Fact) → ((other : List ℕ) → IsIn (direct_free ot
 no_direct notes none (direct_free key) there = absurd (none key there)
 no_direct notes none other there = refl
 
-pub none_about : (fact : Fact) → is_about None fact ≡ false
-none_about (undecided_at name p) = refl
-none_about (prior_values name p batch) = refl
-none_about (unprepared name) = refl
-none_about other = refl
-
 module _ {D : Type 0} (z : SharedState D) (old mid left new : SeatState) (change : Change) (none : old.knows.participant.direct ≡ None) (held : HasDirect z old mid (key_of change)) (ended : EndsDirect z left new (key_of change)) where
   abbrev key : List ℕ
   key = key_of change
@@ -159,27 +153,28 @@ module _ {D : Type 0} (z : SharedState D) (old mid left new : SeatState) (change
   abbrev was : Participant
   was = old.knows.participant
 
-  -- with all that was noted before the call
-  turnless_still : (R : Participant) → ContinuesWith IsNoDirect z old new R → Continues z old new R
-  turnless_still R goes = record {
+  -- with all of these facts that was noted before the call
+  noted_still : (Part : Fact → Type 0) (R : Participant) → ContinuesWith (λ fact. Part fact × (is_of_direct fact ≡ false)) z old new R → ContinuesWith Part z old new R
+  noted_still Part R goes = record {
     free = goes.free;
     same_by = goes.same_by;
     seen = goes.seen;
     participant = goes.participant;
-    notes = λ fact turnless there. goes.notes fact (turnless, no_direct old.knows.notes held.first fact there) there;
+    notes = λ fact part there. goes.notes fact (part, no_direct old.knows.notes held.first fact there) there;
     made = goes.made;
     joined = goes.joined;
   }
 
   -- what the seat was between, and is when the key is given back
-  given : (Part : Fact → Type 0) (change_it : Participant → Participant) → ((fact : Fact) → guarded_by fact ≡ None → Part fact)
+  given : (Part : Fact → Type 0) (change_it : Participant → Participant) → ((fact : Fact) → Part fact → IsLoose fact)
       → ((x : Participant) (seen : List Entry) → record (without_direct (record (change_it (record x { seen = seen })) { seen = left.knows.participant.seen })) { seen = new.knows.participant.seen } ≡ record (change_it (without_direct x)) { seen = new.knows.participant.seen })
-      → ContinuesWith Part z mid left (change_it mid.knows.participant) → Continues z old new (change_it (wrote_direct key was))
-  given Part change_it stays commutes goes =
-      let first : ContinuesWith IsNoDirect z old left (change_it mid.knows.participant) =
-      chain IsNoDirect IsLoose Part z old mid left (writing_direct key was) (change_it mid.knows.participant) (change_it mid.knows.participant) (λ fact s. s.0) (λ fact s. stays fact s.0) held.goes_on goes refl in
-      turnless_still (change_it (wrote_direct key was))
-      (chain IsNoDirect IsNoDirect IsNoDirect z old left new (change_it mid.knows.participant) (without_direct left.knows.participant) (change_it (wrote_direct key was)) (λ fact s. s) (λ fact s. s) first ended.goes_on
+      → ContinuesWith Part z mid left (change_it mid.knows.participant) → ContinuesWith Part z old new (change_it (wrote_direct key was))
+  given Part change_it loose commutes goes =
+      let NoDirect : Fact → Type 0 = λ fact. Part fact × (is_of_direct fact ≡ false) in
+      let first : ContinuesWith NoDirect z old left (change_it mid.knows.participant) =
+      chain NoDirect IsLoose Part z old mid left (writing_direct key was) (change_it mid.knows.participant) (change_it mid.knows.participant) (λ fact s. loose fact s.0) (λ fact s. s.0) held.goes_on goes refl in
+      noted_still Part (change_it (wrote_direct key was))
+      (chain NoDirect NoDirect IsNoDirect z old left new (change_it mid.knows.participant) (without_direct left.knows.participant) (change_it (wrote_direct key was)) (λ fact s. s) (λ fact s. (loose fact s.0, s.1)) first ended.goes_on
       (ap (λ (x : Participant). record (without_direct x) { seen = new.knows.participant.seen }) (first.participant ∙ ap (λ (x : Participant). record (change_it x) { seen = left.knows.participant.seen }) held.goes_on.participant)
       ∙ commutes (writing_direct key was) mid.knows.participant.seen
       ∙ ap (λ (d : Option (List ℕ)). record (change_it (record (wrote_direct key was) { direct = d })) { seen = new.knows.participant.seen }) (sym none)))
@@ -193,8 +188,8 @@ module _ {D : Type 0} (z : SharedState D) (old mid left new : SeatState) (change
         r.0 ∙ ap (λ (es : List Entry). length es) (sym same_seen),
         (
           history,
-          put_within IsLoose _ IsLoose z old mid left new (writing_direct key was) (wrote_direct key was) history (Write (change ∷ []) ∷ []) held.goes_on put same_seen
-              (given _ (λ x. record x { own = x.own ++ numbers_behind (length history) (Write (change ∷ []) ∷ []) }) (λ fact turnless. (turnless, (none_about fact, tt))) (λ x seen. refl) put.goes_on),
+          put_within IsLoose IsLoose IsLoose z old mid left new (writing_direct key was) (wrote_direct key was) history (Write (change ∷ []) ∷ []) held.goes_on put same_seen
+              (given _ (λ x. record x { own = x.own ++ numbers_behind (length history) (Write (change ∷ []) ∷ []) }) (λ fact part. part.0) (λ x seen. refl) put.goes_on),
         ),
         (held.found, ended.freed),
       )

@@ -1,9 +1,9 @@
 -- A transaction that its entries end, and one that is prepared.
-use Rattle.std.proofs.Common.{◌≡◌, inl, ℕ, suc, ◌≤◌, ◌<◌, false, List, [], ◌∷◌, ◌++◌, length, refl, sym, subst, ap, ◌∙◌, Option, Some, None, eq-eqb, ◌+◌, arith}
+use Rattle.std.proofs.Common.{◌≡◌, inl, ℕ, suc, ◌≤◌, ◌<◌, List, [], ◌∷◌, ◌++◌, length, refl, sym, subst, ap, ◌∙◌, Some, eq-eqb, ◌+◌, arith}
 use Rattle.std.specs.Prelude.{Ok}
 use Rattle.std.specs.FinMap as finite
 use Rattle.wp_model.specs.Decision.{decision_of}
-use Rattle.wp_model.specs.History.{entry_at, name_at, prepared_name}
+use Rattle.wp_model.specs.History.{entry_at}
 use Rattle.wp_model.specs.Legal.{IsLegal}
 use Rattle.wp_model.specs.declared.change.Change.{Change}
 use Rattle.wp_model.specs.declared.entry.Entry.{Entry}
@@ -12,13 +12,11 @@ use Rattle.wp_model.proofs.Entries.{entry_at_old, undecided_within}
 use Rattle.wp_history_laws.proofs.Growth.{after_front, entry_at_next, length_next}
 use Rattle.wp_judge.specs.Words.{seq_end}
 use Rattle.wp_core.specs.Lists.{IsIn}
-use Rattle.wp_core.specs.Views.{Fact, undecided_at}
+use Rattle.wp_core.specs.Views.{Fact, undecided_at, unprepared}
 use Rattle.wp_core.specs.World.{Participant}
 use Rattle.wp_core.specs.Sound.Actors.{StartsWith}
-use Rattle.wp_core.specs.Sound.Views.{guarded_by}
 use Rattle.wp_core.proofs.HistoryLaws.{next_decides_prepare}
 use Rattle.wp_records.specs.Records.{numbers_behind, IsAboutNone}
-use Rattle.wp_shared.specs.Notes.{is_about}
 use Rattle.wp_shared.specs.Calls.{IsLoose, ContinuesWith, Continues, with_events}
 use Rattle.wp_rule.specs.Words.{IsAt}
 use Rattle.wp_shared.specs.Seats.{SharedState, SeatState, place_at}
@@ -28,7 +26,6 @@ use Rattle.wp_open_txns.specs.Turns.{IsApartFrom}
 use Rattle.wp_open_txns.specs.Txn.{OpenState, PreparedState, HasLocked, HasOpen, HasPrepared}
 use Rattle.wp_txn.specs.Writes.{HasPut, Refuses, Prepares, Ends, RefusesOpen, RefusesPrepared}
 use Rattle.wp_open_txns.specs.declared.error.TxnError.{TxnError}
-use Rattle.wp_txn.proofs.DirectWrites.{none_about}
 use Rattle.wp_txn.proofs.Goes.{chain, put_within, refused_within, refused_still}
 use Rattle.wp_open_txns.proofs.Still.{open_still, prepared_still}
 
@@ -36,23 +33,23 @@ use Rattle.wp_open_txns.proofs.Still.{open_still, prepared_still}
 
 -- the call began with what left the seat as it was, but for what it had seen
 module _ {D : Type 0} (z : SharedState D) (old start mid new : SeatState) (name : List ℕ) (entries : List Entry) (facts : ℕ → List Fact) (n : ℕ) (begins : Continues z old start old.knows.participant)
-    (r : Records z start entries facts (Ok n) mid) (which : (fact : Fact) → is_about (Some name) fact ≡ false → IsAboutNone r.1.0 entries fact) where
+    (r : Records z start entries facts (Ok n) mid) where
   abbrev it : Participant
   it = old.knows.participant
 
   abbrev Part : Fact → Type 0
-  Part fact = (guarded_by fact ≡ None) × IsAboutNone r.1.0 entries fact
+  Part fact = IsLoose fact × IsAboutNone r.1.0 entries fact
+
+  abbrev Apart : Fact → Type 0
+  Apart fact = IsApartFrom name fact × IsAboutNone r.1.0 entries fact
 
   -- with these numbers more of its own
   abbrev owning : Participant → Participant
   owning p = record p { own = p.own ++ numbers_behind (length r.1.0) entries }
 
-  apart_stays : (fact : Fact) → IsApartFrom name fact → Part fact
-  apart_stays fact apart = (apart.0, which fact apart.1)
-
-  until_then : ContinuesWith (IsApartFrom name) z old mid (owning it)
+  until_then : ContinuesWith Part z old mid (owning it)
   until_then =
-      chain (IsApartFrom name) IsLoose Part z old start mid it (owning start.knows.participant) (owning it) (λ fact apart. apart.0) apart_stays begins r.1.1.put.goes_on
+      chain Part IsLoose Part z old start mid it (owning start.knows.participant) (owning it) (λ fact part. part.0) (λ fact part. part) begins r.1.1.put.goes_on
       (ap (λ (p : Participant). record (owning p) { seen = mid.knows.participant.seen }) begins.participant)
 
   same_seen : Frees z mid new name → new.knows.participant.seen ≡ mid.knows.participant.seen
@@ -61,8 +58,8 @@ module _ {D : Type 0} (z : SharedState D) (old start mid new : SeatState) (name 
   -- what was put is put still, and the transaction is gone
   pub put_and_freed : Frees z mid new name → HasPut (IsApartFrom name) z old new it (without_transaction name it) r.1.0 entries
   put_and_freed frees =
-      put_within IsLoose Part (IsApartFrom name) z old start mid new it (without_transaction name it) r.1.0 entries begins r.1.1.put (same_seen frees)
-      (chain (IsApartFrom name) (IsApartFrom name) (IsApartFrom name) z old mid new (owning it) (without_transaction name mid.knows.participant) (owning (without_transaction name it)) (λ fact apart. apart) (λ fact apart. apart)
+      put_within IsLoose IsLoose (IsApartFrom name) z old start mid new it (without_transaction name it) r.1.0 entries begins r.1.1.put (same_seen frees)
+      (chain Apart Part (IsApartFrom name) z old mid new (owning it) (without_transaction name mid.knows.participant) (owning (without_transaction name it)) (λ fact apart. (apart.0.0, apart.1)) (λ fact apart. apart.0)
       until_then frees.gives_up (ap (λ (p : Participant). record (without_transaction name p) { seen = new.knows.participant.seen }) until_then.participant))
 
   -- the number published then is how much it has seen still
@@ -88,12 +85,12 @@ refused_from z old start new needed Asks More wider begins why c =
     (ap (λ (p : Participant). record (with_events events p) { seen = new.knows.participant.seen }) begins.participant))
     Asks More wider why c
 
--- what was noted of a transaction outlasts a record that is of none
-pub noted_until : {D : Type 0} (z : SharedState D) (old mid : SeatState) (batch : List Change) (facts : ℕ → List Fact) (n : ℕ) (fact : Fact) → Records z old (Write batch ∷ []) facts (Ok n) mid → guarded_by fact ≡ None → IsIn fact old.knows.notes
-    → IsIn fact mid.knows.notes
-noted_until z old mid batch facts n fact r turnless there = r.1.1.put.goes_on.notes fact (turnless, (none_about fact, tt)) there
+-- what was noted of a name outlasts a record that is of no transaction
+pub noted_until : {D : Type 0} (z : SharedState D) (old mid : SeatState) (batch : List Change) (facts : ℕ → List Fact) (n : ℕ) (name : List ℕ) → Records z old (Write batch ∷ []) facts (Ok n) mid → IsIn (unprepared name) old.knows.notes
+    → IsIn (unprepared name) mid.knows.notes
+noted_until z old mid batch facts n name r there = r.1.1.put.goes_on.notes (unprepared name) (refl, (refl, tt)) there
 
--- freed, and then out of the prepared tables
+-- freed, and then out of the prepared sets
 pub freed_then : {D : Type 0} (z : SharedState D) (old mid new : SeatState) (name : List ℕ) → Frees z old mid name → Continues z mid new mid.knows.participant → new.knows.participant ≡ mid.knows.participant → Frees z old new name
 freed_then z old mid new name frees goes same = record {
   gives_up = chain (IsApartFrom name) (IsApartFrom name) IsLoose z old mid new (without_transaction name old.knows.participant) mid.knows.participant (without_transaction name old.knows.participant)
@@ -113,13 +110,7 @@ module _ {D : Type 0} (z : SharedState D) (old mid : SeatState) (x : PreparedSta
   pub stands_before : (history : List Entry) → StartsWith history old.knows.participant.seen → entry_at history x.number ≡ Some (Prepare x.name x.batch)
   stands_before history grown = ap (λ (es : List Entry). entry_at es x.number) grown.1 ∙ entry_at_old old.knows.participant.seen grown.0 x.number h.seen ∙ h.stands
 
-  pub name_before : (history : List Entry) → StartsWith history old.knows.participant.seen → Some (name_at history x.number) ≡ Some x.name
-  name_before history grown = ap (λ (o : Option Entry). Some (prepared_name o)) (stands_before history grown)
-
   module _ (facts : ℕ → List Fact) (n : ℕ) (r : Records z old (Commit x.number ∷ []) facts (Ok n) mid) where
-    pub commit_is_of : (fact : Fact) → is_about (Some x.name) fact ≡ false → IsAboutNone r.1.0 (Commit x.number ∷ []) fact
-    commit_is_of fact apart = (ap (λ (o : Option (List ℕ)). is_about o fact) (name_before r.1.0 r.1.1.put.grown) ∙ apart, tt)
-
     -- the number is decided in what the seat has seen, by the record's entry
     pub commit_decides : (decision_of mid.knows.participant.seen x.number ≡ Some n) × (x.number ≤ n) × (n < seq_end)
     commit_decides =
@@ -152,16 +143,7 @@ prepares z old new txn n h r =
         seen = (let e = r.0 in omega (arith, e));
         stands = ap (λ (es : List Entry). entry_at es n) seen ∙ ap (entry_at (history ++ Prepare txn.name txn.batch ∷ [])) last ∙ entry_at_next history (Prepare txn.name txn.batch);
       },
-      (
-        history,
-        record {
-          grown = put.grown;
-          found_log = put.found_log;
-          seen = put.seen;
-          within = put.within;
-          goes_on = let k = put.goes_on in record { free = k.free; same_by = k.same_by; seen = k.seen; participant = k.participant; notes = λ fact apart there. k.notes fact (apart.0, (apart.1, tt)) there; made = k.made; joined = k.joined };
-        },
-      ),
+      (history, put),
     )
 
 -- ---- a refusal

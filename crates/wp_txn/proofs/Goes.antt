@@ -2,11 +2,11 @@
 use Rattle.std.proofs.Common.{◌≡◌, ⊎_elim, inl, inr, ℕ, ◌+◌, ◌≤◌, Bool, true, false, List, [], ◌∷◌, ◌++◌, length, refl, sym, subst, ap, ◌∙◌}
 use Rattle.wp_model.specs.Legal.{IsLegal}
 use Rattle.wp_model.specs.declared.entry.Entry.{Entry}
-use Rattle.wp_core.specs.Views.{Event, Fact, stopped, log_failed}
+use Rattle.wp_core.specs.Views.{Event, Fact, stopped, based_at, log_failed}
 use Rattle.wp_core.specs.World.{Participant}
 use Rattle.wp_rule.specs.Words.{IsAt}
 use Rattle.wp_records.specs.Writing.{FoundLog}
-use Rattle.wp_records.specs.Records.{numbers_behind, failing, IsUncalled}
+use Rattle.wp_records.specs.Records.{numbers_behind, IsAboutNone, failing, IsUncalled}
 use Rattle.wp_shared.specs.Calls.{ContinuesWith, Continues, with_events}
 use Rattle.wp_shared.specs.Limits.{limit_at}
 use Rattle.wp_shared.specs.Seats.{SharedState, SeatState, IsFree, place_at}
@@ -47,7 +47,7 @@ found_from First z old mid p history now b to is_now found = record {
 -- what was put by a part of a call, which goes on from this participant, was put by the call
 pub put_within : {D : Type 0} (First Part Stays : Fact → Type 0) (z : SharedState D) (old mid left new : SeatState) (found after : Participant) (history entries : List Entry) → ContinuesWith First z old mid found
     → HasPut Part z mid left mid.knows.participant mid.knows.participant history entries → new.knows.participant.seen ≡ left.knows.participant.seen
-    → ContinuesWith Stays z old new (record after { own = after.own ++ numbers_behind (length history) entries }) → HasPut Stays z old new found after history entries
+    → ContinuesWith (λ fact. Stays fact × IsAboutNone history entries fact) z old new (record after { own = after.own ++ numbers_behind (length history) entries }) → HasPut Stays z old new found after history entries
 put_within First Part Stays z old mid left new found after history entries to put same goes = record {
   grown = starts_on old.knows.participant.seen mid.knows.participant.seen history to.seen put.grown;
   found_log = found_from First z old mid found history history false to refl put.found_log;
@@ -78,7 +78,7 @@ module _ {D : Type 0} (First : Fact → Type 0) (z : SharedState D) (old mid lef
   pub refused_within : (Asks More : List Entry → Type 0) → ((entries : List Entry) → Asks entries → IsLegal (new.knows.participant.seen ++ entries) → More entries) → (why : TxnError) → Refuses z mid left needed Asks mid.knows.participant mid.knows.participant why → Refuses z old new needed More found after why
   refused_within Asks More wider Memory c = plain c
   refused_within Asks More wider (Stopped n) c = (c.0 ∙ same_length, found_in true c.1, more (stopped n ∷ []) c.2)
-  refused_within Asks More wider (NumbersFull published limit) c = (c.0 ∙ same_length, c.1, found_in false c.2, c.3, plain c.4)
+  refused_within Asks More wider (NumbersFull published limit) c = (c.0 ∙ same_length, c.1, found_in false c.2, c.3, more (based_at published c.2.world.installed.last.segment.base ∷ []) c.4)
   refused_within Asks More wider LogFault c =
       let legal = subst (λ (h : List Entry). IsLegal (h ++ c.2.0)) (sym same) c.2.3 in (
         found_in false c.0,
@@ -97,7 +97,7 @@ refused_for z old new needed Asks found after other c = c
 pub refused_still : {D : Type 0} (z : SharedState D) (old new : SeatState) (needed : ℕ) (Asks : List Entry → Type 0) (why : TxnError) → Refuses z old new needed Asks old.knows.participant old.knows.participant why → HasStill old new
 refused_still z old new needed Asks Memory c = still z old new old.knows.participant refl refl c
 refused_still z old new needed Asks (Stopped n) c = still z old new (with_events (stopped n ∷ []) old.knows.participant) refl refl c.2
-refused_still z old new needed Asks (NumbersFull published limit) c = still z old new old.knows.participant refl refl c.4
+refused_still z old new needed Asks (NumbersFull published limit) c = still z old new (with_events (based_at published c.2.world.installed.last.segment.base ∷ []) old.knows.participant) refl refl c.4
 refused_still z old new needed Asks LogFault c = still z old new (failing c.2.0 old.knows.participant) refl refl c.2.2
 refused_still z old new needed Asks other c = absurd c
 

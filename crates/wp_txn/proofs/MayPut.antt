@@ -20,7 +20,7 @@ use Rattle.wp_fields.specs.declared.format.Format.{Format}
 use Rattle.wp_fields.specs.declared.format.Format.TheVariants.{One, Two}
 use Rattle.wp_entry.specs.Record.{last_number}
 use Rattle.wp_core.specs.Conditions.{HasTransaction}
-use Rattle.wp_core.specs.Entries.{transaction_of, changes_under}
+use Rattle.wp_core.specs.Entries.{transaction_of, changes_under, written}
 use Rattle.wp_core.specs.Lists.{IsIn}
 use Rattle.wp_core.specs.States.{WriteState}
 use Rattle.wp_core.specs.Views.{direct_free, undecided_at, unprepared}
@@ -118,9 +118,12 @@ module _ {D : Type 0} (z : SharedState D) (old new : SeatState) (log : LogState)
     has : HasTransaction new.knows x.name h.transaction
     has = ap (λ (ts : Transactions). finite.get ts x.name) same_transactions ∙ h.has
 
+    noted_still : IsIn (unprepared x.name) new.knows.notes
+    noted_still = o.took.goes.noted (unprepared x.name) refl h.noted
+
     open_so : (named history x.name ≡ None) × ((key : List ℕ) → is_changed x.batch key ≡ true → holder_of history key ≡ None)
     open_so =
-        let so = (noted_is (place_at z new.by) new.knows o.took.world (unprepared x.name) o.took.stands (o.took.goes.noted (unprepared x.name) refl h.noted)).is_so in (
+        let so = (noted_is (place_at z new.by) new.knows o.took.world (unprepared x.name) o.took.stands noted_still).is_so in (
           ap (λ (d : WriteState). named d.history x.name) (sym o.took.is) ∙ so.1,
           λ key changed. ap (λ (d : WriteState). holder_of d.history key) (sym o.took.is) ∙ so.2 h.transaction key has (h.keys key ∙ changed),
         )
@@ -128,7 +131,7 @@ module _ {D : Type 0} (z : SharedState D) (old new : SeatState) (log : LogState)
     pub may_write_open : MayPut new.knows history (Write x.batch ∷ [])
     may_write_open = record {
       legal = grows_by (Write x.batch) one (writes_next x.batch whole open_so.1);
-      owned = (record { keys = λ key changed. inr (x.name, h.transaction, has, h.keys key ∙ changed); transaction = λ other e. absurd (some_none other (sym e)) }, tt);
+      owned = (record { keys = λ key changed. inr (x.name, h.transaction, has, h.keys key ∙ changed, noted_still); transaction = λ other e. absurd (some_none other (sym e)) }, tt);
     }
 
     pub may_prepare : MayPut new.knows history (Prepare x.name x.batch ∷ [])
@@ -136,7 +139,7 @@ module _ {D : Type 0} (z : SharedState D) (old new : SeatState) (log : LogState)
       legal = grows_by (Prepare x.name x.batch) one (record { orderly = record { ascending = batch_ascends x.batch whole; names_undecided = tt; undo_is_closed = nothing_undone; keys_are_free = (all_free history x.batch open_so.1, open_so.0) }; restores_prior = tt });
       owned = (
         record {
-          keys = λ key changed. inr (x.name, h.transaction, has, h.keys key ∙ changed);
+          keys = λ key changed. absurd (true≢false (sym changed));
           transaction = λ other e. (h.transaction, subst (λ (n : List ℕ). HasTransaction new.knows n h.transaction) (same_some x.name other e) has, λ key changed. h.keys key ∙ changed);
         },
         tt,
@@ -161,10 +164,10 @@ module _ {D : Type 0} (z : SharedState D) (old new : SeatState) (log : LogState)
     pub undecided_still : is_undecided history x.number ≡ true
     undecided_still = (found_named history x.name x.number named_still).0
 
-    owns_end : (before : List Entry) (entry : Entry) → entry_at before x.number ≡ Some (Prepare x.name x.batch) → transaction_of before entry ≡ Some (name_at before x.number)
+    owns_end : (before : List Entry) (entry : Entry) → written entry ≡ [] → entry_at before x.number ≡ Some (Prepare x.name x.batch) → transaction_of before entry ≡ Some (name_at before x.number)
         → ((key : List ℕ) → is_changed (changes_under before entry) key ≡ true → is_changed x.batch key ≡ true) → OwnsEntry new.knows before entry
-    owns_end before entry there is keys = record {
-      keys = λ key changed. inr (x.name, h.transaction, still_has, h.keys key ∙ keys key changed);
+    owns_end before entry none there is keys = record {
+      keys = λ key changed. absurd (true≢false (sym changed ∙ ap (λ (b : List Change). is_changed b key) none));
       transaction = λ other e. (
         h.transaction,
         subst (λ (n : List ℕ). HasTransaction new.knows n h.transaction) (sym (ap prepared_name there) ∙ same_some (name_at before x.number) other (sym is ∙ e)) still_has,
@@ -175,7 +178,7 @@ module _ {D : Type 0} (z : SharedState D) (old new : SeatState) (log : LogState)
     pub may_commit : 1 ≤ needed → MayPut new.knows history (Commit x.number ∷ [])
     may_commit one = record {
       legal = grows_by (Commit x.number) one (record { orderly = record { ascending = refl; names_undecided = undecided_still; undo_is_closed = nothing_undone; keys_are_free = tt }; restores_prior = tt });
-      owned = (owns_end history (Commit x.number) stands_still refl (λ key changed. ap (λ (b : List Change). is_changed b key) (sym (ap prepared_batch stands_still)) ∙ changed), tt);
+      owned = (owns_end history (Commit x.number) refl stands_still refl (λ key changed. ap (λ (b : List Change). is_changed b key) (sym (ap prepared_batch stands_still)) ∙ changed), tt);
     }
 
     -- what is restored is what its keys have in the history
@@ -190,8 +193,8 @@ module _ {D : Type 0} (z : SharedState D) (old new : SeatState) (log : LogState)
           legal = subst IsLegal (append_assoc history (Undo x.number restored ∷ []) (Close x.number ∷ []))
               (legal_next grown (Close x.number) first (close_follows history x.number restored undo) (omega (arith, a, b, two, length_next history (Undo x.number restored))));
           owned = (
-            owns_end history (Undo x.number restored) stands_still refl
+            owns_end history (Undo x.number restored) refl stands_still refl
                 (λ key changed. ap (λ (c : List Change). is_changed c key) (sym (ap prepared_batch stands_still)) ∙ sym (prior_changes history (batch_at history x.number) key) ∙ ap (λ (c : List Change). is_changed c key) (sym is) ∙ changed),
-            (owns_end grown (Close x.number) there refl (λ key changed. ap (λ (c : List Change). is_changed c key) (sym (ap prepared_batch there)) ∙ changed), tt),
+            (owns_end grown (Close x.number) refl there refl (λ key changed. ap (λ (c : List Change). is_changed c key) (sym (ap prepared_batch there)) ∙ changed), tt),
           );
         }

@@ -1,5 +1,5 @@
 -- A prepared transaction that is rolled back.
-use Rattle.std.proofs.Common.{◌≡◌, inl, inr, ℕ, suc, ◌≤◌, ◌<◌, true, false, List, [], ◌∷◌, ◌++◌, length, length-append, take, refl, sym, subst, ap, ◌∙◌, Option, Some, None, append_assoc, eq-eqb, arith}
+use Rattle.std.proofs.Common.{◌≡◌, inl, inr, ℕ, suc, ◌≤◌, ◌<◌, true, List, [], ◌∷◌, ◌++◌, length, length-append, take, refl, sym, subst, ap, ◌∙◌, Some, None, append_assoc, eq-eqb, arith}
 use Rattle.std.specs.Prelude.{Ok}
 use Rattle.std.proofs.lemmas.List.{take-append-le}
 use Rattle.wp_model.specs.Decision.{decision_of}
@@ -20,8 +20,6 @@ use Rattle.wp_core.proofs.HistoryGrows.{named_stays}
 use Rattle.wp_core.proofs.HistoryLaws.{next_decides_prepare}
 use Rattle.wp_core.proofs.KeepsSeen.{shorter}
 use Rattle.wp_parts.specs.Log.{LogState}
-use Rattle.wp_records.specs.Records.{IsAboutNone}
-use Rattle.wp_shared.specs.Notes.{is_about}
 use Rattle.wp_shared.specs.Calls.{IsLoose, Continues}
 use Rattle.wp_shared.specs.Seats.{SharedState, SeatState}
 use Rattle.wp_shared.proofs.Onward.{continues_none}
@@ -30,7 +28,7 @@ use Rattle.wp_txn.specs.Recording.{OpensLog, Records, HadPrior, IsPriorSince}
 use Rattle.wp_open_txns.specs.Turns.{IsApartFrom}
 use Rattle.wp_open_txns.specs.Txn.{PreparedState, without_number, HasLocked, HasPrepared}
 use Rattle.wp_txn.specs.Writes.{HasPut, RollsBack, AsksRollback}
-use Rattle.wp_txn.proofs.Ends.{put_and_freed, number_still, locked_until, name_before, stands_before}
+use Rattle.wp_txn.proofs.Ends.{put_and_freed, number_still, locked_until, stands_before}
 use Rattle.wp_txn.proofs.Goes.{chain}
 use Rattle.wp_open_txns.proofs.Still.{still, prepared_locked, prepared_still}
 use Rattle.wp_txn.proofs.MayPut.{legal_now, stands_still, undecided_still}
@@ -172,15 +170,6 @@ module _ {D : Type 0} (z : SharedState D) (old start mid : SeatState) (x : Prepa
   abbrev before_it : List Entry
   before_it = r.1.0
 
-  rollback_is_of : (fact : Fact) → is_about (Some x.name) fact ≡ false → IsAboutNone before_it (Undo x.number restored ∷ Close x.number ∷ []) fact
-  rollback_is_of fact apart =
-      let grown = r.1.1.put.grown in
-      let later : StartsWith (before_it ++ Undo x.number restored ∷ []) start.knows.participant.seen =
-      (grown.0 ++ Undo x.number restored ∷ [], ap (λ (es : List Entry). es ++ Undo x.number restored ∷ []) grown.1 ∙ append_assoc start.knows.participant.seen grown.0 (Undo x.number restored ∷ [])) in (
-        ap (λ (o : Option (List ℕ)). is_about o fact) (name_before z start mid x h before_it grown) ∙ apart,
-        (ap (λ (o : Option (List ℕ)). is_about o fact) (name_before z start mid x h (before_it ++ Undo x.number restored ∷ []) later) ∙ apart, tt),
-      )
-
   pub rolled_back_decides : (decision_of mid.knows.participant.seen x.number ≡ Some n) × (x.number ≤ n) × (n < seq_end)
   rolled_back_decides =
       subst (λ (es : List Entry). (decision_of es x.number ≡ Some n) × (x.number ≤ n) × (n < seq_end)) (sym r.1.1.put.seen)
@@ -191,14 +180,14 @@ module _ {D : Type 0} (z : SharedState D) (old start mid : SeatState) (x : Prepa
 
   -- it has the transaction until the record is put
   pub locked_still : HasLocked mid (without_number x)
-  locked_still = locked_until z start start mid mid x.name (Undo x.number restored ∷ Close x.number ∷ []) facts n (continues_none z start begins.free) r rollback_is_of (without_number x) (prepared_locked start x h)
+  locked_still = locked_until z start start mid mid x.name (Undo x.number restored ∷ Close x.number ∷ []) facts n (continues_none z start begins.free) r (without_number x) (prepared_locked start x h)
 
   pub rolled_back : (new : SeatState) → Frees z mid new x.name → (fits z.cells (record { number = x.number; decision = n }) ≡ true → IsIn (has_left x.number) new.knows.notes) → RollsBack z old x n new
   rolled_back new frees gone =
       let entries : List Entry = Undo x.number restored ∷ Close x.number ∷ [] in
       let Put : List Change → Type 0 = λ b. HasPut (IsApartFrom x.name) z old new old.knows.participant (without_transaction x.name old.knows.participant) before_it (Undo x.number b ∷ Close x.number ∷ []) in (
-        number_still z old start mid new x.name entries facts n begins r rollback_is_of frees,
-        (before_it, subst Put restored_is (put_and_freed z old start mid new x.name entries facts n begins r rollback_is_of frees)),
+        number_still z old start mid new x.name entries facts n begins r frees,
+        (before_it, subst Put restored_is (put_and_freed z old start mid new x.name entries facts n begins r frees)),
         gone,
         frees.freed,
       )

@@ -17,13 +17,14 @@ use Rattle.wp_commits.specs.Ways.{way_of, ways_of, MayPrecede, AreApart}
 use Rattle.wp_commits.specs.declared.way.Way.{Way}
 use Rattle.wp_commits.specs.declared.way.Way.TheVariants.{Undecided, InWord, Delayed}
 use Rattle.wp_judge.specs.Words.{fits}
+use Rattle.wp_core.specs.Changes.{remembers}
 use Rattle.wp_core.specs.Conditions.{NoneNext}
 use Rattle.wp_core.specs.Entries.{transaction_of, pair_by}
 use Rattle.wp_core.specs.Lists.{IsIn}
-use Rattle.wp_core.specs.Steps.{find_log_closed}
+use Rattle.wp_core.specs.Steps.{find_log_closed, find_base}
 use Rattle.wp_core.specs.States.{Content, WriteState, writes}
 use Rattle.wp_core.specs.Turns.{write_turn}
-use Rattle.wp_core.specs.Views.{Fact, stopped, undecided_at, unprepared}
+use Rattle.wp_core.specs.Views.{Event, Fact, stopped, based_at, undecided_at, unprepared}
 use Rattle.wp_core.specs.World.{Participant, Actor, World}
 use Rattle.wp_core.specs.Sound.Actors.{StartsWith}
 use Rattle.wp_core.specs.Sound.Views.{guarded_by}
@@ -42,13 +43,13 @@ use Rattle.wp_parts.specs.Log.{LogState, IsLog, format_at}
 use Rattle.wp_parts.specs.Parts.{log_first}
 use Rattle.wp_records.specs.declared.error.WriteError.{WriteError}
 use Rattle.wp_records.specs.declared.error.WriteError.TheVariants as write_error
-use Rattle.wp_records.specs.Records.{numbers_behind, putting, IsAboutNone, failing, MayPut, IsPut, IsNotPut, IsUncalled}
+use Rattle.wp_records.specs.Records.{numbers_behind, putting, failing, MayPut, IsPut, IsNotPut, IsUncalled}
 use Rattle.wp_records.specs.Writing.{HoldsWrite, FoundLog}
 use Rattle.wp_shared.specs.Calls.{IsLoose, ContinuesWith, Continues, with_events}
 use Rattle.wp_shared.specs.Seats.{SharedState, SeatState, IsFree, place_at}
 use Rattle.wp_shared.specs.Turns.{HoldsTurn, TookLog, Given}
 use Rattle.wp_shared.proofs.Onward.{starts_on, loose_under}
-use Rattle.wp_open_txns.specs.Actors.{with_stopped}
+use Rattle.wp_open_txns.specs.Actors.{with_stopped, with_base}
 use Rattle.wp_shared.specs.Notes.{with_note, seat_of}
 use Rattle.wp_txn.specs.Recording.{OpensLog, notes_of, PutsNoting, Records, answer_of}
 use Rattle.wp_txn.specs.declared.recording.Noting.{Noting}
@@ -62,10 +63,20 @@ use Rattle.wp_txn.proofs.RollsBack.{rollback_frees}
 -- ---- steps under the write turn
 
 closed_ends : EndsNothing find_log_closed
-closed_ends = record { guard = λ turn. refl; place = λ words place. refl; words = refl; delayed_flag = refl; old_flag = refl; pending = refl; adds = refl; takes = refl; prepared = refl; unprepared = refl; delays = refl; transaction = λ history name. refl; direct = refl; moves = refl; replaces = refl; installing = refl }
+closed_ends = record { guard = λ turn. refl; place = λ words place. refl; words = refl; delayed_flag = refl; old_flag = refl; pending = refl; adds = refl; takes = refl; prepared = refl; unprepared = refl; delays = refl; transaction = λ history name. refl; changes = λ history key. refl; direct = refl; moves = refl; replaces = refl; installing = refl }
 
 pub may_find_closed : (p : Place) (a : Actor) (d : WriteState) → IsIn (writes d) a.held → d.closed ≡ true → MayMake p a (λ w. find_log_closed ∷ [])
 may_find_closed p a d held closed = known_made p a find_log_closed tt (record { state = d; held = held; so_is = closed })
+
+base_ends : EndsNothing find_base
+base_ends = record { guard = λ turn. refl; place = λ words place. refl; words = refl; delayed_flag = refl; old_flag = refl; pending = refl; adds = refl; takes = refl; prepared = refl; unprepared = refl; delays = refl; transaction = λ history name. refl; changes = λ history key. refl; direct = refl; moves = refl; replaces = refl; installing = refl }
+
+pub may_find_base : (p : Place) (a : Actor) (d : WriteState) → IsIn (writes d) a.held → NoneNext d → MayMake p a (λ w. find_base ∷ [])
+may_find_base p a d held waits = known_made p a find_base tt (record { state = d; held = held; so_is = waits })
+
+pub base_found : (p : Place) (so : World → Type 0) (a b : Actor) (d : WriteState) → Moved p (λ w. find_base ∷ []) so a b → IsIn (writes d) a.held → b ≡ with_base (length d.history) d.segment.base a
+base_found p so a b d m held =
+    all_made p (λ w. find_base ∷ []) so a b m (base_ends, tt) ∙ ap (λ (t : WriteState). with_base (length t.history) t.segment.base a) (held_state p a m.world (writes d) m.before held)
 
 pub closed_found : (p : Place) (so : World → Type 0) (a b : Actor) (d : WriteState) → Moved p (λ w. find_log_closed ∷ []) so a b → IsIn (writes d) a.held → b ≡ with_stopped (length d.history) a
 closed_found p so a b d m held =
@@ -144,10 +155,13 @@ module _ {D : Type 0} (z : SharedState D) (old s : SeatState) (log : LogState) (
   alone free = subst (λ (x : List Content × List ℕ). HoldsTurn z s (writes log.state) x.0 x.1) (λ i. (free.held i, free.turns i)) took.holds
 
   -- the last edit names the segment that the log is in
-  in_place_then : IsLog log → took.world.installed.last.segment ≡ log.wal.segment
-  in_place_then k =
+  in_state_then : IsLog log → took.world.installed.last.segment ≡ log.state.segment
+  in_state_then k =
       in_place took.world.writes took.world.installed.last.segment (at_sound (place_at z s.by) s.knows took.world took.stands).coupled.last (subst NoneNext (sym took.is) k.none_waits)
-      ∙ ap (λ (d : WriteState). d.segment) took.is ∙ k.segment
+      ∙ ap (λ (d : WriteState). d.segment) took.is
+
+  in_place_then : IsLog log → took.world.installed.last.segment ≡ log.wal.segment
+  in_place_then k = in_state_then k ∙ k.segment
 
   -- so the limit is that of its version
   limit_then : IsLog log → min z.limit (last_number log.wal.format) ≡ limit_at z took.world.installed.last.segment.base
@@ -167,39 +181,48 @@ module _ {D : Type 0} (z : SharedState D) (old s : SeatState) (log : LogState) (
 
   -- ---- the log was found closed, or full
 
-  module _ (t new : SeatState) (n : ℕ) (found : t ≡ seat_of s (with_stopped (length history) s.knows)) (number : n ≡ length history) where
+  -- the seat remembers one event more, and gave the turn
+  module _ (t new : SeatState) (event : Event) (found : t ≡ seat_of s (remembers s.knows event)) where
     pub alone_still : IsFree z.table old → HoldsTurn z t (writes log.state) [] []
     alone_still free = let h = alone free in subst (λ (x : SeatState). HoldsTurn z x (writes log.state) [] []) (sym found) (record { same_table = h.same_table; live = h.live; held = h.held; turns = h.turns })
 
-    pub stopped_back : (needed : ℕ) (Asks : List Entry → Type 0) → log.state.closed ≡ true → IsLog log → Given z write_turn t new [] [] → Refuses z old new needed Asks was was (Stopped n) × LeavesDevice z was old new
-    stopped_back needed Asks closed is_log gives =
-        let seen_there : t.knows.participant.seen ≡ history = ap (λ (x : SeatState). x.knows.participant.seen) found ∙ took.seen in
-        let seen : new.knows.participant.seen ≡ history = ap (λ (x : SeatState). x.knows.participant.seen) gives.goes.same ∙ seen_there in (
-          (
-            number ∙ ap (λ (es : List Entry). length es) (sym seen),
-            found_then new.knows.participant.seen true seen closed,
-            given_back IsLoose z old t new (with_events (stopped n ∷ []) was) gives (ap (λ (x : SeatState). x.by) found ∙ same_by)
-                (took.grown.0, seen_there ∙ took.grown.1)
-                (ap (λ (x : SeatState). x.knows.participant) found ∙ ap (with_events (stopped (length history) ∷ [])) is_then
-                ∙ ap (λ (x : ℕ × List Entry). record (with_events (stopped x.0 ∷ []) was) { seen = x.1 }) (λ i. (sym number i, (took.seen ∙ sym seen_there) i)))
-                (λ fact loose. loose)
-                (λ fact loose there. subst (λ (x : SeatState). IsIn fact x.knows.notes) (sym found) (noted_then fact there))
-                (ap (λ (x : SeatState). x.knows.made) found ∙ made_then)
-                (ap (λ (x : SeatState). x.knows.joined) found ∙ joined_then),
-          ),
-          left_alone log new true seen closed is_log took.of_store is_log refl,
+    remembered_back : Given z write_turn t new [] [] → (new.knows.participant.seen ≡ history) × Continues z old new (with_events (event ∷ []) was)
+    remembered_back gives =
+        let seen_there : t.knows.participant.seen ≡ history = ap (λ (x : SeatState). x.knows.participant.seen) found ∙ took.seen in (
+          ap (λ (x : SeatState). x.knows.participant.seen) gives.goes.same ∙ seen_there,
+          given_back IsLoose z old t new (with_events (event ∷ []) was) gives (ap (λ (x : SeatState). x.by) found ∙ same_by)
+              (took.grown.0, seen_there ∙ took.grown.1)
+              (ap (λ (x : SeatState). x.knows.participant) found ∙ ap (with_events (event ∷ [])) is_then
+              ∙ ap (λ (es : List Entry). record (with_events (event ∷ []) was) { seen = es }) (took.seen ∙ sym seen_there))
+              (λ fact loose. loose)
+              (λ fact loose there. subst (λ (x : SeatState). IsIn fact x.knows.notes) (sym found) (noted_then fact there))
+              (ap (λ (x : SeatState). x.knows.made) found ∙ made_then)
+              (ap (λ (x : SeatState). x.knows.joined) found ∙ joined_then),
         )
 
-  pub full_back : (new : SeatState) (needed published limit : ℕ) (Asks : List Entry → Type 0) → log.state.closed ≡ false → IsLog log → published ≡ length history → limit ≡ min z.limit (last_number log.wal.format) → limit < published + needed → Given z write_turn s new [] []
-      → Refuses z old new needed Asks was was (NumbersFull published limit) × LeavesDevice z was old new
-  full_back new needed published limit Asks running is_log number is over gives =
-      let seen : new.knows.participant.seen ≡ history = ap (λ (x : SeatState). x.knows.participant.seen) gives.goes.same ∙ took.seen in (
+  pub stopped_back : (t new : SeatState) (n needed : ℕ) (Asks : List Entry → Type 0) → t ≡ seat_of s (with_stopped (length history) s.knows) → n ≡ length history → log.state.closed ≡ true → IsLog log → Given z write_turn t new [] []
+      → Refuses z old new needed Asks was was (Stopped n) × LeavesDevice z was old new
+  stopped_back t new n needed Asks found number closed is_log gives =
+      let back = remembered_back t new (stopped (length history)) found gives in let seen = back.0 in (
+        (
+          number ∙ ap (λ (es : List Entry). length es) (sym seen),
+          found_then new.knows.participant.seen true seen closed,
+          subst (λ (m : ℕ). Continues z old new (with_events (stopped m ∷ []) was)) (sym number) back.1,
+        ),
+        left_alone log new true seen closed is_log took.of_store is_log refl,
+      )
+
+  pub full_back : (t new : SeatState) (needed published limit : ℕ) (Asks : List Entry → Type 0) → t ≡ seat_of s (with_base (length history) log.state.segment.base s.knows) → log.state.closed ≡ false → IsLog log → published ≡ length history → limit ≡ min z.limit (last_number log.wal.format) → limit < published + needed
+      → Given z write_turn t new [] [] → Refuses z old new needed Asks was was (NumbersFull published limit) × LeavesDevice z was old new
+  full_back t new needed published limit Asks found running is_log number is over gives =
+      let back = remembered_back t new (based_at (length history) log.state.segment.base) found gives in let seen = back.0 in
+      let base = ap (λ (g : Segment). g.base) (in_state_then is_log) in (
         (
           number ∙ ap (λ (es : List Entry). length es) (sym seen),
           over,
           found_then new.knows.participant.seen false seen running,
           is ∙ limit_then is_log,
-          given_back IsLoose z old s new was gives same_by starts_then is_then (λ fact loose. loose) (λ fact loose there. noted_then fact there) made_then joined_then,
+          subst (λ (x : ℕ × ℕ). Continues z old new (with_events (based_at x.0 x.1 ∷ []) was)) (λ i. (sym number i, sym base i)) back.1,
         ),
         left_alone log new false seen running is_log took.of_store is_log refl,
       )
@@ -219,7 +242,7 @@ module _ {D : Type 0} (z : SharedState D) (old s t new : SeatState) (log left : 
   abbrev it : Participant
   it = old.knows.participant
 
-  put_back : IsPut z s log entries t left → HasPut (λ fact. IsLoose fact × IsAboutNone before_it entries fact) z old new it it before_it entries
+  put_back : IsPut z s log entries t left → HasPut IsLoose z old new it it before_it entries
   put_back put =
       let seen_there : t.knows.participant.seen ≡ before_it ++ entries = ap (λ (a : Actor). a.participant.seen) put.knows in record {
         grown = o.took.grown;

@@ -8,16 +8,15 @@ use Rattle.wp_model.specs.Legal.{IsLegal, prior}
 use Rattle.wp_model.specs.declared.change.Change.{Change}
 use Rattle.wp_entry.specs.Record.{last_number}
 use Rattle.wp_core.specs.Lists.{IsIn}
-use Rattle.wp_core.specs.Sound.Views.{guarded_by}
 use Rattle.wp_core.specs.Views.{Fact, undecided_at, unprepared, direct_free}
 use Rattle.wp_core.specs.World.{Participant}
 use Rattle.wp_parts.specs.Log.{LogState, IsLog}
 use Rattle.wp_records.specs.declared.error.WriteError.{WriteError}
 use Rattle.wp_records.specs.declared.error.WriteError.TheVariants as write_error
 use Rattle.wp_commits.specs.Ways.{ways_of, AreApart}
-use Rattle.wp_records.specs.Records.{IsAboutNone, MayPut, IsPut, Puts}
+use Rattle.wp_records.specs.Records.{MayPut, IsPut, Puts}
 use Rattle.wp_records.specs.Writing.{HoldsWrite}
-use Rattle.wp_shared.specs.Calls.{ContinuesWith, Continues}
+use Rattle.wp_shared.specs.Calls.{IsLoose, ContinuesWith, Continues}
 use Rattle.wp_shared.specs.Limits.{limit_at}
 use Rattle.wp_shared.specs.Seats.{SharedState, SeatState}
 use Rattle.wp_shared.specs.Turns.{TookLog}
@@ -46,7 +45,7 @@ MayNote (noting.Undecided name) history entries = (batch : List Change) × (entr
 MayNote (noting.Unprepared name) history entries = IsEndOf name.now history entries
 
 -- The seat took the write turn with this log, which is running, and holds no other. So many entries more have their numbers within
--- the limit of its segment, and the log's version has them. The device has what the log's table says.
+-- the limit of its segment, and the log's version has them. The device has what the log's state says.
 pub record OpensLog {D : Type 0} (z : SharedState D) (old new : SeatState) (log : LogState) (needed : ℕ) : Type 0 where
   pub took : TookLog z old new log
   pub holds : HoldsWrite z new log
@@ -71,10 +70,9 @@ answer_of (Ok done) n = Ok n
 answer_of (Err write_error.Memory) n = Err Memory
 answer_of (Err write_error.LogFault) n = Err LogFault
 
--- The seat put the entries behind this history, which is legal with them. It lost none of the facts that it noted without a turn
--- but for those about the transaction of one of them.
+-- the seat put the entries behind this history, which is legal with them
 pub record HasRecorded {D : Type 0} (z : SharedState D) (old new : SeatState) (history entries : List Entry) : Type 0 where
-  pub put : HasPut (λ fact. (guarded_by fact ≡ None) × IsAboutNone history entries fact) z old new old.knows.participant old.knows.participant history entries
+  pub put : HasPut IsLoose z old new old.knows.participant old.knows.participant history entries
   pub legal : IsLegal (history ++ entries)
 
 -- What a call answers that puts the entries into the history, and then notes these facts, which may name the number published

@@ -1,5 +1,5 @@
 -- What the calls answer that make entries, and what they leave of the seat.
-use Rattle.std.specs.Prelude.{◌≡◌, ◌⊎◌, ℕ, ◌+◌, ◌<◌, ◌≤◌, Bool, true, false, List, [], ◌∷◌, ◌++◌, filter, length, Some, None, Result, Ok, Err}
+use Rattle.std.specs.Prelude.{◌≡◌, ◌⊎◌, ℕ, ◌+◌, ◌<◌, ◌≤◌, Bool, true, false, List, [], ◌∷◌, ◌++◌, length, Some, None, Result, Ok, Err}
 use Rattle.std.specs.FinMap as finite
 use Rattle.wp_model.specs.declared.change.Change.{Change}
 use Rattle.wp_model.specs.declared.entry.Entry.{Entry}
@@ -9,17 +9,16 @@ use Rattle.wp_model.specs.Batch.{key_of}
 use Rattle.wp_model.specs.Legal.{IsLegal, prior}
 use Rattle.wp_judge.specs.Words.{fits}
 use Rattle.wp_core.specs.Sound.Actors.{StartsWith}
-use Rattle.wp_core.specs.Sound.Views.{guarded_by}
 use Rattle.wp_core.specs.States.{WriteState}
 use Rattle.wp_core.specs.Lists.{IsIn}
-use Rattle.wp_core.specs.Sound.Pasts.{is_log_fault}
-use Rattle.wp_core.specs.Views.{Event, Fact, has_left, locked, log_failed, stopped}
+use Rattle.wp_core.specs.Views.{Fact, has_left, locked, log_failed, stopped, based_at}
 use Rattle.wp_core.specs.World.{Participant}
 use Rattle.wp_parts.specs.Log.{LogState, IsLog}
 use Rattle.wp_parts.specs.Parts.{log_first}
 use Rattle.wp_records.specs.Writing.{FoundLog}
-use Rattle.wp_records.specs.Records.{numbers_behind, failing, FailsAppend, IsUncalled}
-use Rattle.wp_shared.specs.Calls.{ContinuesWith, Continues, with_events}
+use Rattle.wp_records.specs.Records.{numbers_behind, IsAboutNone, failing, FailsAppend, IsUncalled}
+use Rattle.wp_shared.specs.Calls.{IsLoose, ContinuesWith, Continues, with_events}
+use Rattle.wp_shared.specs.Devices.{CalledNoDevice, LeftMarks}
 use Rattle.wp_shared.specs.Limits.{limit_at}
 use Rattle.wp_shared.specs.Seats.{SharedState, SeatState}
 use Rattle.wp_open_txns.specs.declared.error.TxnError.{TxnError}
@@ -31,21 +30,22 @@ use Rattle.wp_open_txns.specs.Txn.{OpenState, PreparedState, HasOpen, HasPrepare
 -- ---- any entries
 
 -- The seat put the entries behind this history, in which it found the log running; they end what it has seen, and their numbers
--- are its own, within the limit that the store has while the log is in the segment that the last edit named then. It was the first participant as it found the log, and is the second one but for what it put; it has these facts
--- still.
+-- are its own, within the limit that the store has while the log is in the segment that the last edit named then. It was the first
+-- participant as it found the log, and is the second one but for what it put. It has these facts still, but for those about the
+-- transaction of one of the entries, or that a key is unchanged which one changes.
 pub record HasPut {D : Type 0} (Stays : Fact → Type 0) (z : SharedState D) (old new : SeatState) (found after : Participant) (history entries : List Entry) : Type 0 where
   pub grown : StartsWith history old.knows.participant.seen
   pub found_log : FoundLog z old found history false
   pub seen : new.knows.participant.seen ≡ history ++ entries
   pub within : length (history ++ entries) ≤ limit_at z found_log.world.installed.last.segment.base
-  pub goes_on : ContinuesWith Stays z old new (record after { own = after.own ++ numbers_behind (length history) entries })
+  pub goes_on : ContinuesWith (λ fact. Stays fact × IsAboutNone history entries fact) z old new (record after { own = after.own ++ numbers_behind (length history) entries })
 
 -- ... behind some history
 abbrev pub HasPutThese : {D : Type 0} → (Fact → Type 0) → SharedState D → SeatState → SeatState → Participant → Participant → List Entry → Type 0
 HasPutThese Stays z old new found after entries = (history : List Entry) × HasPut Stays z old new found after history entries
 
--- The store's log on its device, as the call found it, with this table, and as it left it: between the two this came about. Both are
--- what the value behind the turn may be: the device has what the table says that the log spells, no fault since the opening was
+-- The store's log on its device, as the call found it, in this state, and as it left it: between the two this came about. Both are
+-- what the value behind the turn may be: the device has what the state says that the log spells, no fault since the opening was
 -- forgotten, and what was acknowledged then is so still. No clause of a call on a shared store sees its device: that the value was the
 -- one and became the other in this very call is what `put` says, of the value that the call took out from behind the turn.
 pub record HadLog {D : Type 0} (z : SharedState D) (found : WriteState) (CameAbout : LogState → LogState → Type 0) : Type 0 where
@@ -70,7 +70,8 @@ Refuses z old new needed Asks found after (Stopped n) =
     (n ≡ length new.knows.participant.seen) × FoundLog z old found new.knows.participant.seen true × Continues z old new (with_events (stopped n ∷ []) after)
 Refuses z old new needed Asks found after (NumbersFull published limit) =
     (published ≡ length new.knows.participant.seen) × (limit < published + needed)
-    × (found_log : FoundLog z old found new.knows.participant.seen false) × (limit ≡ limit_at z found_log.world.installed.last.segment.base) × Continues z old new after
+    × (found_log : FoundLog z old found new.knows.participant.seen false) × (limit ≡ limit_at z found_log.world.installed.last.segment.base)
+    × Continues z old new (with_events (based_at published found_log.world.installed.last.segment.base ∷ []) after)
 Refuses z old new needed Asks found after LogFault =
     (found_log : FoundLog z old found new.knows.participant.seen false) × (length new.knows.participant.seen + needed ≤ limit_at z found_log.world.installed.last.segment.base)
     × ((entries : List Entry) × Asks entries × Continues z old new (failing entries after) × IsLegal (new.knows.participant.seen ++ entries) × HadFault z found_log.world.writes entries)
@@ -78,22 +79,9 @@ Refuses z old new needed Asks found after other = ⊥
 
 -- ---- the log's device
 
--- the appends of its own that failed
-abbrev pub failed_appends : Participant → List Event
-failed_appends p = filter is_log_fault p.past
-
--- Between the two the seat made no append. Each one leaves its mark: who appends holds the write turn, and can give it only with nothing
--- pending. By then a record whose append answered Ok is in the history, under numbers of the seat's own; and one whose append failed is
--- in its past.
-pub record MadeNoAppend (old new : Participant) : Type 0 where
-  pub own : new.own ≡ old.own
-  pub failed : failed_appends new ≡ failed_appends old
-
--- Between the two it made one append, which failed.
-pub record FailedOnce (old new : Participant) : Type 0 where
-  pub own : new.own ≡ old.own
-  pub entries : List Entry
-  pub failed : failed_appends new ≡ failed_appends old ++ log_failed entries ∷ []
+-- Between the two it made one append, which failed, and called no other device.
+abbrev pub FailedOnce : Participant → Participant → Type 0
+FailedOnce old new = (entries : List Entry) × LeftMarks (log_failed entries ∷ []) old new
 
 -- the seat has seen no more than before
 abbrev pub SawNoMore : SeatState → SeatState → Type 0
@@ -110,12 +98,12 @@ abbrev pub MayLeaveDevice : {D : Type 0} → SharedState D → Participant → S
 MayLeaveDevice z found old LogFault new = Unit {0}
 MayLeaveDevice z found old other new = LeavesDevice z found old new
 
--- What a refused call did with the log's device, which found the log as this participant. Where it says that the device failed, it
--- made one append, which failed. Where it says anything else, want of memory too, it made none, and the device was not called. So
--- behind an append that answered Ok the call answers Ok.
+-- What a refused call did with the devices, which found the log as this participant. Where it says that the log's device failed, it
+-- made one append, which failed. Where it says anything else, want of memory too, it called none. So behind an append that answered Ok
+-- the call answers Ok.
 abbrev pub RefusesBeforeLog : {D : Type 0} → SharedState D → Participant → SeatState → TxnError → SeatState → Type 0
 RefusesBeforeLog z found old LogFault new = FailedOnce old.knows.participant new.knows.participant
-RefusesBeforeLog z found old other new = MadeNoAppend old.knows.participant new.knows.participant × LeavesDevice z found old new
+RefusesBeforeLog z found old other new = CalledNoDevice old.knows.participant new.knows.participant × LeavesDevice z found old new
 
 -- the same of a call that read at a snapshot first, and took that back
 abbrev pub RefusesBehindRead : {D : Type 0} → SharedState D → SeatState → TxnError → SeatState → Type 0
@@ -138,7 +126,7 @@ KeyIsFree z old new key = LocksWere z old (λ t. finite.get t.keys key ≡ None)
 abbrev pub WritesDirect : {D : Type 0} → SharedState D → SeatState → Change → Result ℕ TxnError → SeatState → Type 0
 WritesDirect z old change (Ok n) new =
     (n ≡ length new.knows.participant.seen)
-    × HasPutThese (λ fact. guarded_by fact ≡ None) z old new (writing_direct (key_of change) old.knows.participant) (wrote_direct (key_of change) old.knows.participant) (Write (change ∷ []) ∷ [])
+    × HasPutThese IsLoose z old new (writing_direct (key_of change) old.knows.participant) (wrote_direct (key_of change) old.knows.participant) (Write (change ∷ []) ∷ [])
     × KeyIsFree z old new (key_of change)
 WritesDirect z old change (Err (Busy holder)) new = Finds z old new (Some (key_of change)) holder
 WritesDirect z old change (Err Memory) new = Keeps z old new ⊎ (Continues z old new (wrote_direct (key_of change) old.knows.participant) × KeyIsFree z old new (key_of change))
@@ -151,7 +139,7 @@ WritesDirect z old change (Err why) new =
 abbrev pub Prepares : {D : Type 0} → SharedState D → SeatState → OpenState → PreparedState → ℕ → SeatState → Type 0
 Prepares z old txn prepared n new =
     (n ≡ length new.knows.participant.seen) × (prepared ≡ record { name = txn.name; number = n; batch = txn.batch }) × HasPrepared new prepared
-    × HasPutThese (IsApartFrom txn.name) z old new old.knows.participant old.knows.participant (Prepare txn.name txn.batch ∷ [])
+    × HasPutThese IsLoose z old new old.knows.participant old.knows.participant (Prepare txn.name txn.batch ∷ [])
 
 -- These entries end the transaction of that name, which the seat has no more. Its name and its keys are free again.
 abbrev pub Ends : {D : Type 0} → SharedState D → SeatState → List ℕ → List Entry → ℕ → SeatState → Type 0

@@ -20,7 +20,7 @@ use wp_outside::Disk;
 use wp_records::{Record, forget_prepared};
 use wp_shared::{Seat, Shared};
 
-/// Frees a transaction whose prepare is decided, and takes the number of that out of the prepared tables, where its pair fits a word.
+/// Frees a transaction whose prepare is decided, and takes the number of that out of the prepared sets, where its pair fits a word.
 /// One that is too wide stays a delayed commit until the bound has come to the decision. It takes no memory.
 pub(crate) fn end<D: Disk + Drop, R: Wait>(
     store: &Shared<D>,

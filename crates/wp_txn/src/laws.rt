@@ -6,20 +6,21 @@ ghost use Rattle.wp_parts.specs.Log.{LogState};
 ghost use Rattle.wp_records.specs.declared.error.WriteError.{WriteError};
 ghost use Rattle.wp_records.specs.declared.error.WriteError.TheVariants as write_error;
 ghost use Rattle.wp_records.specs.Records.{Puts, IsUncalled, FailsAppend};
+ghost use Rattle.wp_shared.specs.Devices.{CalledNoDevice};
 ghost use Rattle.wp_shared.specs.Seats.{SharedState, SeatState};
 ghost use Rattle.wp_open_txns.specs.declared.error.TxnError.{TxnError};
 ghost use Rattle.wp_open_txns.specs.declared.error.TxnError.TheVariants.{LogFault};
-ghost use Rattle.wp_txn.specs.Writes.{MadeNoAppend, FailedOnce, LeavesDevice, RefusesBeforeLog};
+ghost use Rattle.wp_txn.specs.Writes.{FailedOnce, LeavesDevice, RefusesBeforeLog};
 
 /// From the append of a record to the reply nothing is refused but by the log's device.
 ///
-/// A call that makes entries and is refused made no append, and did not call the device; or the device refused, in the one append
-/// that the call made. So it is of the record itself, of whose log the device is seen: it was not called, and its count and its
-/// moments are as they were; or its count rose. And a call whose append answered Ok, so that the entries are the seat's own, answers
+/// A call that makes entries and is refused called no device; or the log's device refused, in the one append that the call made, and it
+/// called no other. So it is of the record itself, of whose log the device is seen: it was not called, and its count and its moments
+/// are as they were; or its count rose. And a call whose append answered Ok, so that the entries are the seat's own, answers
 /// Ok, whatever it answers else.
 pub fn behind_an_append_only_the_device_refuses<D>()
     ensures refused { (z : SharedState D) (found : Participant) (old new : SeatState) (why : TxnError) → RefusesBeforeLog z found old why new
-        → (MadeNoAppend old.knows.participant new.knows.participant × LeavesDevice z found old new) ⊎ ((why ≡ LogFault) × FailedOnce old.knows.participant new.knows.participant) }
+        → (CalledNoDevice old.knows.participant new.knows.participant × LeavesDevice z found old new) ⊎ ((why ≡ LogFault) × FailedOnce old.knows.participant new.knows.participant) }
     ensures record { (z : SharedState D) (old new : SeatState) (log left : LogState) (entries : List Entry) (why : WriteError) → Puts z old log entries (Err why) new left
         → IsUncalled log left ⊎ ((why ≡ write_error.LogFault) × FailsAppend log entries left) }
     ensures appended { (z : SharedState D) (found : Participant) (old new : SeatState) (why : TxnError) → (new.knows.participant.own ≡ old.knows.participant.own → ⊥)

@@ -2,13 +2,13 @@
 //! by which transactions begin, change and change hands, are passed on.
 //!
 //! Each call is a free function over the store and the caller's seat, and begins and ends with a seat that holds no turn. Its clause
-//! says what the seat's actor then has and remembers, and of a refusal also what the tables held as it found them.
+//! says what the seat's actor then has and remembers, and of a refusal also what the state held as it found that.
 //!
 //! `write` is one change, written at once: its key is locked for the call alone. `prepare` puts the changes of an open transaction into
 //! the log, and `commit` decides them; `commit_now` does both by one entry. `rollback` reads what their keys have, at a snapshot of its
 //! own, and puts that back, with the end of the prepare in the same record. Each takes the write turn for its record, finds the log
 //! running and room under the limit, and has the record made by `wp_records`. Behind the write turn the name and the keys of the
-//! transaction are free again, and a decided number leaves the prepared tables, where its pair fits a word.
+//! transaction are free again, and a decided number leaves the prepared sets, where its pair fits a word.
 //!
 //! A transaction is a value that has to be spent: it is handed to the call that ends it, and comes back where that is refused. The
 //! calls wait for turns, and else for the log's device alone. They may be refused for want of memory, and then leave the transaction as

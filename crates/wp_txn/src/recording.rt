@@ -13,7 +13,7 @@ ghost use Rattle.wp_shared.specs.Turns.{Given, history_in};
 ghost use Rattle.wp_txn.specs.Recording.{OpensLog, MayNote, MayRecord, notes_of, PutsNoting, Records, answer_of};
 ghost use Rattle.wp_txn.specs.Writes.{Refuses, MayLeaveDevice};
 
-use crate::steps::{find_log_closed, note_undecided, note_unprepared};
+use crate::steps::{find_base, find_log_closed, note_undecided, note_unprepared};
 use std::sync::Wait;
 use wp_fields::Format;
 use wp_model::{Batch, Name, Seq};
@@ -65,6 +65,7 @@ fn open_log<D: Disk + Drop, R: Wait>(
     }
     let limit = least_limit(store.limit(), log.format());
     if published.saturating_add(needed) > limit {
+        find_base(store, seat, &log);
         store.give_turn(seat, log);
         return Err(TxnError::NumbersFull { published, limit });
     }

@@ -6,6 +6,7 @@ ghost use Rattle.wp_model.specs.History.{named};
 ghost use Rattle.wp_model.specs.LockState.{LockState};
 ghost use Rattle.wp_locks.specs.Locks.{is_free_for};
 ghost use Rattle.wp_core.specs.Changes.{without_key};
+ghost use Rattle.wp_core.specs.Conditions.{NoneNext};
 ghost use Rattle.wp_core.specs.Lists.{IsIn};
 ghost use Rattle.wp_core.specs.States.{writes, locks};
 ghost use Rattle.wp_core.specs.Views.{unprepared, undecided_at};
@@ -13,7 +14,7 @@ ghost use Rattle.wp_core.specs.World.{World};
 ghost use Rattle.wp_shared.specs.Notes.{with_note, seat_of};
 ghost use Rattle.wp_shared.specs.Seats.{Stands, held_by};
 ghost use Rattle.wp_shared.specs.Turns.{history_in};
-ghost use Rattle.wp_open_txns.specs.Actors.{with_direct, with_stopped};
+ghost use Rattle.wp_open_txns.specs.Actors.{with_direct, with_stopped, with_base};
 ghost use Rattle.wp_open_txns.specs.Turns.{IsWithoutDirect};
 
 use std::marker::Brand;
@@ -22,7 +23,7 @@ use wp_model::{Key, Name, Seq};
 use wp_outside::Disk;
 use wp_shared::{Log, Seat, Shared};
 
-/// The seat locked the key, which nobody held, for its direct write. It still holds the tables as they were before.
+/// The seat locked the key, which nobody held, for its direct write. It still holds the state as it was before.
 pub(crate) fn lock_direct<D: Disk + Drop>(store: &Shared<D>, seat: &mut Seat<D>, key: &Key)
     requires seat { (seat.old.table ≡ store.now.table) × (seat.old.knows.live ≡ true) }
     requires none { seat.old.knows.participant.direct ≡ None }
@@ -54,6 +55,16 @@ pub(crate) fn find_log_closed<D: Disk + Drop>(store: &Shared<D>, seat: &mut Seat
     requires held { IsIn (writes log.now.state) (held_by seat.old) }
     requires closed { log.now.state.closed ≡ true }
     ensures { seat.new ≡ seat_of seat.old (with_stopped (length (history_in log.now)) seat.old.knows) }
+{
+    store.make::<Brand>(seat);
+}
+
+/// The seat found the log with this base.
+pub(crate) fn find_base<D: Disk + Drop>(store: &Shared<D>, seat: &mut Seat<D>, log: &Log<D>)
+    requires seat { seat.old.table ≡ store.now.table }
+    requires held { IsIn (writes log.now.state) (held_by seat.old) }
+    requires waits { NoneNext log.now.state }
+    ensures { seat.new ≡ seat_of seat.old (with_base (length (history_in log.now)) log.now.state.segment.base seat.old.knows) }
 {
     store.make::<Brand>(seat);
 }

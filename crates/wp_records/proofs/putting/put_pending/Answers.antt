@@ -4,7 +4,7 @@ use Rattle.std.proofs.lemmas.Result.{err_from_is_err_and}
 use Rattle.wp_model.specs.declared.entry.Entry.{Entry}
 use Rattle.wp_wal.specs.Wal.{WalState}
 use Rattle.wp_core.specs.States.{WriteState}
-use Rattle.wp_core.specs.Views.{pair_not_delayed}
+use Rattle.wp_core.specs.Views.{pair_not_delayed, unprepared}
 use Rattle.wp_rule.specs.Knows.{Noted}
 use Rattle.wp_parts.specs.Log.{LogState}
 use Rattle.wp_shared.specs.Notes.{GoesOn}
@@ -38,14 +38,14 @@ pub publish_all-requires-clause-may : goal.publish_all-requires-clause-may
 publish_all-requires-clause-may g c =
     let s = c.args.seat.now in let t = c.shows_world.new.seat in let log = c.args.log.now in let back = sym c.shows_world.ensures.same in let cells = c.args.store.now.cells in
     let seat = subst (λ (x : SeatState). GoesOn is_guarded s.knows.held s.turns s x) back c.ready.ensures.seat in
-    (logged_join c.args.store.now t c.append.new.seat log c.append.new.log cells c.requires.one (may_still s.knows t.knows log.state.history log.state.pending (ap (λ (x : SeatState). x.knows.participant) seat.same) c.requires.may) c.requires.apart
+    (logged_join c.args.store.now t c.append.new.seat log c.append.new.log cells c.requires.one (may_still s.knows t.knows log.state.history log.state.pending (ap (λ (x : SeatState). x.knows.participant) seat.same) (λ name there. seat.noted (unprepared name) refl there) c.requires.may) c.requires.apart
     (subst (λ (x : SeatState). IsReadied x.knows cells log.state) back c.in-Ok.ensures.ok) (c.in_ok-append.ensures {u = tt})).0
 
 pub publish_all-requires-clause-versions : goal.publish_all-requires-clause-versions
 publish_all-requires-clause-versions g c =
     let s = c.args.seat.now in let t = c.shows_world.new.seat in let log = c.args.log.now in let back = sym c.shows_world.ensures.same in let cells = c.args.store.now.cells in
     let seat = subst (λ (x : SeatState). GoesOn is_guarded s.knows.held s.turns s x) back c.ready.ensures.seat in
-    (logged_join c.args.store.now t c.append.new.seat log c.append.new.log cells c.requires.one (may_still s.knows t.knows log.state.history log.state.pending (ap (λ (x : SeatState). x.knows.participant) seat.same) c.requires.may) c.requires.apart
+    (logged_join c.args.store.now t c.append.new.seat log c.append.new.log cells c.requires.one (may_still s.knows t.knows log.state.history log.state.pending (ap (λ (x : SeatState). x.knows.participant) seat.same) (λ name there. seat.noted (unprepared name) refl there) c.requires.may) c.requires.apart
     (subst (λ (x : SeatState). IsReadied x.knows cells log.state) back c.in-Ok.ensures.ok) (c.in_ok-append.ensures {u = tt})).1
 
 pub returns : goal.returns

@@ -6,7 +6,7 @@ use Rattle.wp_model.specs.History.{undecided}
 use Rattle.wp_model.specs.Legal.{undone_last}
 use Rattle.wp_tableset.specs.Changes.{Asked, one_part}
 use Rattle.wp_core.specs.States.{Content}
-use Rattle.wp_core.specs.World.{World}
+use Rattle.wp_core.specs.World.{Actor, World}
 use Rattle.wp_shared.specs.Notes.{GoesOn}
 use Rattle.wp_maint.specs.Holding.{is_of_tables}
 use Rattle.wp_maint.proofs.Puts.{tables_beneath}
@@ -17,7 +17,7 @@ use Rattle.wp_maint.specs.declared.renewed.Renewed.{Renewed}
 use Rattle.wp_maint.specs.declared.renewed.RenewError.{RenewError}
 use Rattle.wp_maint.specs.Renewing.{HasPlace, HasSegment, RenewsHolding}
 use Rattle.wp_stages.proofs.StageLemmas.{none_waits}
-use Rattle.wp_renew.proofs.Whole.{at_start, closed_by, not_written, not_placed, told, not_installed, may_put, went_through}
+use Rattle.wp_renew.proofs.Whole.{at_start, failed_since, not_written, not_placed, told, not_installed, may_put, went_through}
 use Rattle.wp_renew.proofs.renewing.renew_in.Goals as goal
 
 -- ---- the table
@@ -54,7 +54,7 @@ pub write_segment-requires-clause-stands : goal.write_segment-requires-clause-st
 write_segment-requires-clause-stands g c = subst (λ (x : SeatState). (w : World) × Stands c.args.store.now x w) (sym c.in_ok-tabled.ensures.writes.0) c.requires.stands
 
 pub give_up-requires : goal.give_up-requires
-give_up-requires g c = closed_by _ _ _ _ _ _ c.in-Err.why c.in-Err.ensures
+give_up-requires g c = failed_since _ _ _ _ _ _ c.in-Err.why _ _ c.in_ok-tabled.ensures.past (ap (λ (a : Actor). a.participant.past) c.words.ensures) c.in-Err.ensures
 
 pub returns-in-Err : goal.returns-in-Err
 returns-in-Err g c =

@@ -44,6 +44,7 @@ remember_log_fault-requires-clause-held g c =
       c.requires.running.1,
       c.devices_agree.ensures.log.none_failed c.requires.running.0,
       none_waits d c.devices_agree.ensures.next c.requires.running.0,
+      c.requires.below,
     )
 
 pub returns-in-Ok : goal.returns-in-Ok

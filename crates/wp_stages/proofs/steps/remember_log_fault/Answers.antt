@@ -8,7 +8,7 @@ use Rattle.wp_stages.proofs.Renews.{may_close, was_closed}
 use Rattle.wp_stages.proofs.steps.remember_log_fault.Goals as goal
 
 pub make_about-requires-clause-may : goal.make_about-requires-clause-may
-make_about-requires-clause-may g c = let h = c.requires.held in may_close _ _ h.0 c.args.edits.now.state h.1 h.3 h.4 h.6
+make_about-requires-clause-may g c = let h = c.requires.held in may_close _ _ h.0 c.args.edits.now.state h.1 h.3 h.4 h.6 h.7
 
 pub returns : goal.returns
 returns g c =

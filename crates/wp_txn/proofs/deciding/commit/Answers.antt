@@ -11,7 +11,7 @@ use Rattle.wp_open_txns.specs.Txn.{PreparedState, without_number, HasPrepared}
 use Rattle.wp_txn.specs.Recording.{Records}
 use Rattle.wp_txn.specs.Writes.{AsksCommit}
 use Rattle.wp_txn.proofs.BeforeLog.{refused_txn_before}
-use Rattle.wp_txn.proofs.Ends.{ended, locked_until, commit_is_of, commit_decides, refuses_prepared}
+use Rattle.wp_txn.proofs.Ends.{ended, locked_until, commit_decides, refuses_prepared}
 use Rattle.wp_txn.proofs.Recorded.{records_commit}
 use Rattle.wp_txn.proofs.deciding.commit.Goals as goal
 
@@ -35,7 +35,7 @@ end-requires-clause-has g c =
     let z = c.args.store.now in let s = c.args.seat.now in let mid = c.record.new.seat in let x = c.args.txn in let n = c.in-Ok-record.number in
     let r = subst (λ (y : PreparedState). Records z s (Commit y.number ∷ []) (λ m. unprepared y.name ∷ []) (Ok n) mid) c.txn.view_is
     (subst (λ (es : List Entry). Records z s es (λ m. unprepared c.txn.inside.name ∷ []) (Ok n) mid) c.in-Ok.ensures (c.in-Ok-record.ensures {u = tt})) in
-    locked_until z s s mid s x.name (Commit x.number ∷ []) (λ m. unprepared x.name ∷ []) n (continues_none z s c.requires.free) r (commit_is_of z s mid x c.requires.prepared (λ m. unprepared x.name ∷ []) n r) (without_number x) (prepared_locked s x c.requires.prepared)
+    locked_until z s s mid s x.name (Commit x.number ∷ []) (λ m. unprepared x.name ∷ []) n (continues_none z s c.requires.free) r (without_number x) (prepared_locked s x c.requires.prepared)
 
 pub end-requires-clause-noted : goal.end-requires-clause-noted
 end-requires-clause-noted g c = subst (λ (y : PreparedState). IsIn (unprepared y.name) c.record.new.seat.knows.notes) c.txn.view_is ((c.in-Ok-record.ensures {u = tt}).2 (unprepared c.txn.inside.name) (inl refl))
@@ -52,7 +52,7 @@ returns-in-Ok-record-clause-ok g c =
     let z = c.args.store.now in let s = c.args.seat.now in let mid = c.record.new.seat in let x = c.args.txn in let n = c.in-Ok-record.number in
     let r = subst (λ (y : PreparedState). Records z s (Commit y.number ∷ []) (λ m. unprepared y.name ∷ []) (Ok n) mid) c.txn.view_is
     (subst (λ (es : List Entry). Records z s es (λ m. unprepared c.txn.inside.name ∷ []) (Ok n) mid) c.in-Ok.ensures (c.in-Ok-record.ensures {u = tt})) in (
-      ended z s s mid c.end.new.seat x.name (Commit x.number ∷ []) (λ m. unprepared x.name ∷ []) n (continues_none z s c.requires.free) r (commit_is_of z s mid x c.requires.prepared (λ m. unprepared x.name ∷ []) n r) c.end.ensures.frees,
+      ended z s s mid c.end.new.seat x.name (Commit x.number ∷ []) (λ m. unprepared x.name ∷ []) n (continues_none z s c.requires.free) r c.end.ensures.frees,
       c.end.ensures.gone,
     )
 

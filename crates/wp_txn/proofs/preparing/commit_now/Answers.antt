@@ -2,14 +2,12 @@ use Rattle.std.proofs.Common.{List, [], ◌∷◌, inl, refl, subst, sym, ap, �
 use Rattle.std.specs.Prelude.{Ok, Err}
 use Rattle.wp_model.specs.declared.entry.Entry.{Entry}
 use Rattle.wp_model.specs.declared.entry.Entry.TheVariants.{Write}
-use Rattle.wp_core.specs.Views.{unprepared}
 use Rattle.wp_shared.proofs.Onward.{continues_none}
 use Rattle.wp_open_txns.specs.declared.error.TxnError.TheVariants.{Memory}
 use Rattle.wp_open_txns.specs.Txn.{OpenState, HasOpen}
 use Rattle.wp_open_txns.proofs.Still.{open_locked}
 use Rattle.wp_txn.specs.Recording.{Records}
 use Rattle.wp_txn.proofs.BeforeLog.{refused_txn_before}
-use Rattle.wp_txn.proofs.DirectWrites.{none_about}
 use Rattle.wp_txn.proofs.Ends.{ended, locked_until, noted_until, refuses_open}
 use Rattle.wp_txn.proofs.Recorded.{records_write}
 use Rattle.wp_txn.proofs.preparing.commit_now.Goals as goal
@@ -34,21 +32,21 @@ free-requires-clause-has g c =
     let z = c.args.store.now in let s = c.args.seat.now in let x = c.args.txn in let new = c.record.new.seat in let n = c.in-Ok-record.number in
     let made = c.in-Ok.ensures ∙ ap (λ (y : OpenState). Write y.batch ∷ []) c.txn.view_is in
     let r = subst (λ (es : List Entry). Records z s es (λ m. []) (Ok n) new) made (c.in-Ok-record.ensures {u = tt}) in
-    locked_until z s s new s x.name (Write x.batch ∷ []) (λ m. []) n (continues_none z s c.requires.free) r (λ fact apart. (none_about fact, tt)) x (open_locked s x c.requires.open)
+    locked_until z s s new s x.name (Write x.batch ∷ []) (λ m. []) n (continues_none z s c.requires.free) r x (open_locked s x c.requires.open)
 
 pub free-requires-clause-noted : goal.free-requires-clause-noted
 free-requires-clause-noted g c =
     let z = c.args.store.now in let s = c.args.seat.now in let x = c.args.txn in let new = c.record.new.seat in let n = c.in-Ok-record.number in
     let made = c.in-Ok.ensures ∙ ap (λ (y : OpenState). Write y.batch ∷ []) c.txn.view_is in
     let r = subst (λ (es : List Entry). Records z s es (λ m. []) (Ok n) new) made (c.in-Ok-record.ensures {u = tt}) in
-    noted_until z s new x.batch (λ m. []) n (unprepared x.name) r refl c.requires.open.noted
+    noted_until z s new x.batch (λ m. []) n x.name r c.requires.open.noted
 
 pub returns-in-Ok-record-clause-ok : goal.returns-in-Ok-record-clause-ok
 returns-in-Ok-record-clause-ok g c =
     let z = c.args.store.now in let s = c.args.seat.now in let x = c.args.txn in let new = c.record.new.seat in let n = c.in-Ok-record.number in
     let made = c.in-Ok.ensures ∙ ap (λ (y : OpenState). Write y.batch ∷ []) c.txn.view_is in
     let r = subst (λ (es : List Entry). Records z s es (λ m. []) (Ok n) new) made (c.in-Ok-record.ensures {u = tt}) in
-    ended z s s new c.free.new.seat x.name (Write x.batch ∷ []) (λ m. []) n (continues_none z s c.requires.free) r (λ fact apart. (none_about fact, tt)) c.free.ensures
+    ended z s s new c.free.new.seat x.name (Write x.batch ∷ []) (λ m. []) n (continues_none z s c.requires.free) r c.free.ensures
 
 pub returns-in-Err-clause-refused : goal.returns-in-Err-clause-refused
 returns-in-Err-clause-refused g c =

@@ -2,7 +2,7 @@ use Rattle.std.proofs.Common.{◌≡◌, ℕ, ◌≤◌, ◌&&◌, ◌||◌, nat
 use Rattle.std.specs.FinSet as set
 use Rattle.wp_prepared.proofs.prepared.Prepared.advance.Given as goal
 
--- what the tables are to become stays the same at each step, and the moves that are left fit
+-- what the sets are to become stays the same at each step, and the moves that are left fit
 abbrev pub invariant-loop-p : goal.invariant-loop-p
 invariant-loop-p l = record {
   heap : (q : ℕ) → (set.contains l.self-inside.heap q && nat_lt l.m q) ≡ (set.contains l.fn.self.heap q && nat_lt l.m q);
