@@ -204,6 +204,7 @@ class Judge:
         form = answer[0]
         if form == "fault log":
             need(asked(self.client, command) or command == ("renew",), "needed", "the command is not logged")
+            need(command != ("renew",) or self.renews_something(), "failed", "nothing was to be renewed")
         elif form in ("full", "stopped"):
             self.log_is_closed(command, answer)
         elif form in ("halted", "fault tables", "nothing", "flushed", "compacted", "renewed"):
@@ -220,6 +221,15 @@ class Judge:
     def none(self, command, answer):
         raise Wrong("row", f"`{' '.join(command)}` has no such reply in this state")
 
+    def bases_at(self, n):
+        """The bases that the log may have had when so many entries were published: nobody renewed it between the two."""
+        bases = self.evidence.bases
+        return {base for base in bases if self.base <= base <= n and not any(base < other < n for other in bases)}
+
+    def renews_something(self):
+        """The last base is below what is published: where a renewal failed, neither has changed since."""
+        return max(self.evidence.bases) < len(self.evidence.history)
+
     def log_is_closed(self, command, answer):
         needed = len(asked(self.client, command))
         need(needed or answer[0] == "stopped" and command == ("renew",), "needed", "the command is not logged")
@@ -228,8 +238,8 @@ class Judge:
             need(answer[1] == len(self.evidence.history), "stopped", "later entries are published")
             need(self.evidence.faults["fault log"] or self.evidence.faults["stopped by tables"], "stopped", "the log did not fail")
         else:
-            limits = self.evidence.limits if self.base == self.evidence.found.base else self.evidence.limits[1:]
-            need(answer[2] in limits, "full", f"the limits are {limits}")
+            limits = {self.evidence.limits[base != self.evidence.found.base] for base in self.bases_at(answer[1])}
+            need(answer[2] in limits, "full", f"with {answer[1]} entries the limits are {limits}")
             need(answer[1] + needed > answer[2], "full", f"{needed} more would be within the limit")
 
     def change_row(self, command, answer):
@@ -329,7 +339,7 @@ class Judge:
         elif form == "fault tables" and kind == "flush":
             need(history.count(max(flushed), len(history)), "failed", "nothing was to be flushed")
         elif form == "fault tables" and kind == "renew":
-            need(len(history) > max(self.evidence.bases), "failed", "nothing was to be renewed")
+            need(self.renews_something(), "failed", "nothing was to be renewed")
         elif form == "fault tables":
             flushes = self.evidence.faults["flushed"] + self.evidence.faults["renewed"]
             need(self.evidence.found.tables + flushes > 1, "failed", "there were never two tables")

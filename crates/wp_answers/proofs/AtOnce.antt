@@ -20,11 +20,12 @@ use Rattle.wp_client.specs.Replies.{asking, acknowledging, refusal}
 use Rattle.wp_client.proofs.Clients.{answers_from, holds_from, breaks_from}
 use Rattle.wp_client.proofs.States.{refused_as_it_was}
 use Rattle.wp_answers.specs.Replies.{is_change}
-use Rattle.wp_answers.proofs.Writes.{written_answers, not_written_answers, not_written_breaks, written_holds}
+use Rattle.wp_answers.proofs.Writes.{written_answers, not_written_answers, not_written_breaks, written_holds, not_written_holds}
 
 module _ {D : Type 0} (z : SharedState D) (old new : SeatState) (c : Change) where
   pub at_once_holds : (answer : Result ℕ TxnError) → WritesDirect z old c answer new → HoldsFrom z old new held.Idle held.Idle
-  at_once_holds answer w = holds_from z old new held.Idle (λ h has. written_holds z old new c h has answer w)
+  at_once_holds (Ok n) w = written_holds z old new c n w
+  at_once_holds (Err why) w = holds_from z old new held.Idle (λ h has. not_written_holds z old new c h has why w)
 
   pub at_once_named : (why : TxnError) → WritesDirect z old c (Err why) new → why ≢ Silent
   at_once_named why k is = (subst (λ (w : TxnError). WritesDirect z old c (Err w) new) is k).0

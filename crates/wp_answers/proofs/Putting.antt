@@ -64,7 +64,7 @@ module _ {D : Type 0} (z : SharedState D) (old new : SeatState) where
       → Answers z old new was now c r
   one_answers Kept found after history entry events was now c r n put is client own past k then last allowed =
       let goes = put.goes_on in let grown : new.knows.participant.past ≡ it.past ++ events = ap (λ (p : Participant). p.past) goes.participant ∙ past in record {
-        stays = in_place Kept z old new _ goes client;
+        stays = in_place _ z old new _ goes client;
         own = ap (λ (p : Participant). p.own) goes.participant ∙ (ap (λ (ns : List ℕ). ns ++ numbers_behind (length history) (entry ∷ [])) own
             ∙ ap (λ (ns : List ℕ). it.own ++ ns) (own_number history new.knows.participant.seen entry n put.seen is ∙ sym k.acknowledges));
         within = λ m there. of_one (λ (k : ℕ). k ≤ z.limit) n (last_within z old new put n is) m (subst (IsIn m) k.acknowledges there);

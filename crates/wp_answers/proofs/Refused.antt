@@ -1,5 +1,5 @@
 -- What a client is answered whose command the log does not take.
-use Rattle.std.proofs.Common.{◌≡◌, ⊎_elim, inl, inr, ℕ, ◌+◌, ◌≤◌, List, [], ◌∷◌, ◌++◌, length, Option, Some, None, refl, sym, subst, ap, ◌∙◌, append_assoc, arith}
+use Rattle.std.proofs.Common.{◌≡◌, ⊎_elim, inl, inr, ℕ, ◌+◌, ◌≤◌, ◌==◌, Bool, true, false, if◌then◌else◌, eq-eqb, ne_eqb, List, [], ◌∷◌, ◌++◌, length, Option, Some, None, refl, sym, subst, ap, ◌∙◌, append_assoc, arith}
 use Rattle.std.proofs.lemmas.Bool.{cases_lt}
 use Rattle.std.specs.Prelude.{unwrap_or}
 use Rattle.wp_model.specs.declared.entry.Entry.{Entry}
@@ -10,7 +10,7 @@ use Rattle.wp_text.specs.declared.reply.Reply.TheVariants as reply
 use Rattle.wp_core.specs.Lists.{IsIn, one_if}
 use Rattle.wp_core.specs.Sound.Pasts.{closes_log, due_after}
 use Rattle.wp_core.specs.Sound.Pasts as pasts
-use Rattle.wp_core.specs.Views.{Event, log_failed, stopped}
+use Rattle.wp_core.specs.Views.{Event, log_failed, stopped, based_at}
 use Rattle.wp_core.specs.World.{Participant}
 use Rattle.wp_core.proofs.KeepsSeen.{shorter}
 use Rattle.wp_core.proofs.PastsGrow.{in_last, in_either, total_more}
@@ -19,7 +19,8 @@ use Rattle.wp_rule.proofs.Knows.{one_was_first}
 use Rattle.wp_rule.specs.Shows.{WasLast}
 use Rattle.wp_shared.specs.Calls.{Continues, with_events}
 use Rattle.wp_parts.specs.Parts.{content}
-use Rattle.wp_shared.proofs.Limits.{limit_either, limit_renewed}
+use Rattle.wp_shared.specs.Limits.{limit_at}
+use Rattle.wp_shared.proofs.Limits.{limit_opened, limit_renewed}
 use Rattle.wp_shared.specs.Seats.{SharedState, SeatState, place_at}
 use Rattle.wp_open_txns.specs.declared.error.TxnError.{TxnError}
 use Rattle.wp_open_txns.specs.declared.error.TxnError.TheVariants.{Memory, NumbersFull, LogFault, Stopped}
@@ -27,7 +28,7 @@ use Rattle.wp_txn.specs.Writes.{Refuses}
 use Rattle.wp_replies.specs.Client.{Client}
 use Rattle.wp_replies.specs.Kind.{number_in, fresh_in, last_after}
 use Rattle.wp_replies.specs.Progress.{Progress, heard_after}
-use Rattle.wp_replies.specs.Replies.{Limits, IsLimit, Evidence, refusal_of, needed, AsksFor, IsFresh, Condition, UnlessRefused, Allows}
+use Rattle.wp_replies.specs.Replies.{Limits, limit_at_base, IsLimit, Evidence, refusal_of, needed, AsksFor, IsFresh, Condition, UnlessRefused, Allows}
 use Rattle.wp_replies.proofs.Scenes.{needs_no_renewal}
 use Rattle.wp_client.specs.Agrees.{Agrees}
 use Rattle.wp_client.specs.Alone.{log_faults, device_faults, tables_faults}
@@ -37,7 +38,7 @@ use Rattle.wp_client.specs.Replies.{refusal}
 use Rattle.wp_client.proofs.Alone.Published.{no_device_fault}
 use Rattle.wp_client.proofs.Fitting.{else_answers}
 use Rattle.wp_client.proofs.Growing.{InstallNothing, due_still, last_still}
-use Rattle.wp_answers.proofs.Risen.{base_there, base_between}
+use Rattle.wp_answers.proofs.Risen.{base_within, base_there, base_between}
 use Rattle.wp_client.proofs.Staying.{holds_still}
 
 -- the log does not take it: its numbers are full, it fails, or it failed before
@@ -121,28 +122,53 @@ module _ {D : Type 0} (z : SharedState D) (old new : SeatState) (client : Client
     past_more : (last : Event) → after.past ++ last ∷ [] ≡ it.past ++ (front ++ last ∷ [])
     past_more last = ap (λ (es : List Event). es ++ last ∷ []) past ∙ append_assoc it.past front (last ∷ [])
 
-    -- where the client knows of a renewal of its own, the log has been renewed
-    is_limit : (first : InstalledEdit) → WasLast content z.first first → (before : Progress) → IsProgress first it before → (e : Evidence) (published limit : ℕ) → Refuses z old new needs Asks found after (NumbersFull published limit) → Agrees e z new.knows.participant → IsLimit e before.base limit
+    -- the base that the log was found with
+    abbrev base_of : (published limit : ℕ) → Refuses z old new needs Asks found after (NumbersFull published limit) → ℕ
+    base_of published limit f = f.2.world.installed.last.segment.base
+
+    -- the limit is that of a log with this base, which is no lower than the one that the store was opened with
+    limit_is : (first : InstalledEdit) → WasLast content z.first first → (e : Evidence) → Agrees e z new.knows.participant → (base : ℕ) → first.segment.base ≤ base → limit_at z base ≡ limit_at_base e base
+    limit_is first is_first e agrees base low =
+        let was = agrees.opened first is_first in let opened = agrees.base first is_first in
+        elim (cases_lt first.segment.base base) [
+          | inl above ↦
+              let other : (base == e.base) ≡ false = ne_eqb base e.base (λ same. omega (arith, above, same, opened)) in
+              limit_renewed z first.segment.base was base above ∙ (ap (λ (l : Limits). l.renewed) (sym agrees.limits) ∙ sym (ap (λ (b : Bool). if b then e.limits.opened else e.limits.renewed) other))
+          | inr none ↦
+              let is : base ≡ first.segment.base = omega (arith, none, low) in
+              let same : (base == e.base) ≡ true = eq-eqb base e.base (is ∙ sym opened) in
+              ap (limit_at z) is ∙ (limit_opened z first.segment.base was ∙ (ap (λ (l : Limits). l.opened) (sym agrees.limits) ∙ sym (ap (λ (b : Bool). if b then e.limits.opened else e.limits.renewed) same)))
+        ]
+
+    is_limit : (first : InstalledEdit) → WasLast content z.first first → (before : Progress) → IsProgress first it before → (e : Evidence) (published limit : ℕ) → Refuses z old new needs Asks found after (NumbersFull published limit) → Agrees e z new.knows.participant → IsLimit e before published limit
     is_limit first is_first before p e published limit f agrees =
-        let w = f.2.world in
+        let w = f.2.world in let base = base_of published limit f in
         let known = base_between first w f.2.there.reached (place_at z old.by).by f.2.actor f.2.there.there (one_was_first content z.first w.first_edit first f.2.there.first_edit is_first) before.base
         (base_there first before.base it.past f.2.actor.participant.past (λ event there. subst (λ (past : List Event). IsIn event past) (sym (ap (λ (q : Participant). q.past) f.2.participant)) (begins event there)) p.base) in
-        elim (cases_lt first.segment.base before.base) [
-          | inl above ↦ inr (f.3 ∙ (limit_renewed z first.segment.base (agrees.opened first is_first) w.installed.last.segment.base (omega (arith, above, known.1)) ∙ ap (λ (l : Limits). l.renewed) (sym agrees.limits)))
-          | inr none ↦ elim (limit_either z w.installed.last.segment.base) [
-            | inl opened ↦ inl (f.3 ∙ (opened ∙ ap (λ (l : Limits). l.opened) (sym agrees.limits)), omega (arith, none, known.0, agrees.base first is_first))
-            | inr renewed ↦ inr (f.3 ∙ (renewed ∙ ap (λ (l : Limits). l.renewed) (sym agrees.limits)))
-          ]
-        ]
+        let told = agrees.past (based_at published base) (subst (IsIn (based_at published base)) (sym (ap (λ (q : Participant). q.past) f.4.participant)) (in_last (based_at published base) after.past)) in
+        let within : base ≤ published = (let high = base_within w f.2.there.reached in let all = ap (λ (h : List Entry). length h) f.2.history_is in let is = f.0 in omega (arith, high, all, is)) in
+        (base, (told.0, known.1, within, told.1), f.3 ∙ limit_is first is_first e agrees base (omega (arith, known.0, known.1)))
 
     full_answers : (published limit : ℕ) → Refuses z old new needs Asks found after (NumbersFull published limit) → Answers z old new client client c (reply.Full published limit)
     full_answers published limit f =
-        else_answers z old new _ after front client client c (reply.Full published limit) 0 f.4 same_client own past
-        (record { acknowledges = refl; tables = λ before. sym (k.quiet before); labels = λ before. logged.labels before (reply.Full published limit); log_failed = no_device_fault front k.log_failed; log_stopped = k.log_failed; tables_failed = k.tables_failed; once = (let none = k.none_found in omega (arith, none)); remembered = tt; explained = k.explained (reply.Full published limit) tt })
+        let last : Event = based_at published (base_of published limit f) in
+        else_answers z old new _ (with_events (last ∷ []) after) (front ++ last ∷ []) client client c (reply.Full published limit) 0 f.4 same_client own (past_more last)
+        (record {
+          acknowledges = refl;
+          tables = λ before. sym (quiet_more front last k.quiet (λ due. refl) before);
+          labels = λ before. logged.labels before (reply.Full published limit);
+          log_failed = (let m = device_more front last in let none = no_device_fault front k.log_failed in omega (arith, m, none));
+          log_stopped = (let m = log_more front last in let none = k.log_failed in omega (arith, m, none));
+          tables_failed = (let m = tables_more front last in let none = k.tables_failed in omega (arith, m, none));
+          once = (let m = found_more front last in let none = k.none_found in omega (arith, m, none));
+          remembered = tt;
+          explained = λ event there. ⊎_elim (λ (t : IsIn event front). k.explained (reply.Full published limit) tt event t)
+              (λ (same : last ≡ event). subst (IsExplained it.client client.txn c (Some (reply.Full published limit))) same tt) (in_either event last front there);
+        })
         refl (same_last (reply.Full published limit) refl)
         (λ first is_first before p e agrees. by_condition e before (reply.Full published limit) (
           (let n = logged.needs_is in let some = logged.some in omega (arith, n, some)),
-          fresh_number first before e published after f.4 f.0 p agrees,
+          fresh_number first before e published (with_events (last ∷ []) after) f.4 f.0 p agrees,
           is_limit first is_first before p e published limit f agrees,
           (let n = logged.needs_is in let low = f.1 in omega (arith, n, low)),
         ))
@@ -186,8 +212,8 @@ module _ {D : Type 0} (z : SharedState D) (old new : SeatState) (client : Client
         })
         refl (same_last reply.FaultLog refl)
         (λ first is_first before p e agrees. by_condition e before reply.FaultLog (
-          subst (AsksFor client.txn c) (sym (agrees.past (log_failed entries) (subst (IsIn (log_failed entries)) (sym (ap (λ (q : Participant). q.past) goes.participant)) (in_last (log_failed entries) after.past)))) (logged.asks entries f.2.1),
-          needs_no_renewal e before client.txn c (let n = logged.needs_is in let some = logged.some in omega (arith, n, some)),
+          subst (AsksFor client.txn c) (sym (agrees.past (log_failed entries) (subst (IsIn (log_failed entries)) (sym (ap (λ (q : Participant). q.past) goes.participant)) (in_last (log_failed entries) after.past))).0) (logged.asks entries f.2.1),
+          needs_no_renewal e client.txn c (let n = logged.needs_is in let some = logged.some in omega (arith, n, some)),
         ))
 
     -- each refusal of the log, with its reply
@@ -202,7 +228,7 @@ module _ {D : Type 0} (z : SharedState D) (old new : SeatState) (needs : ℕ) (A
       → (why : TxnError) → Refuses z old new needs Asks found after why → (h : HoldingsState) → Holds z old h → Holds z new h
   refused_holds ts direct registered Memory f h has = holds_still z old new after ts direct registered f h has
   refused_holds ts direct registered (Stopped n) f h has = holds_still z old new (with_events (stopped n ∷ []) after) ts direct registered f.2 h has
-  refused_holds ts direct registered (NumbersFull published limit) f h has = holds_still z old new after ts direct registered f.4 h has
+  refused_holds ts direct registered (NumbersFull published limit) f h has = holds_still z old new (with_events (based_at published f.2.world.installed.last.segment.base ∷ []) after) ts direct registered f.4 h has
   refused_holds ts direct registered LogFault f h has = holds_still z old new (with_events (log_failed f.2.0 ∷ []) after) ts direct registered f.2.2 h has
   refused_holds ts direct registered _ f h has = absurd f
 

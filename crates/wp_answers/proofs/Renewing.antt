@@ -167,17 +167,7 @@ module _ {D : Type 0} (z : SharedState D) (old new : SeatState) where
           explained = of_two (IsExplained it.client client.txn command.Renew (Some reply.FaultLog)) found fault tt tt;
         })
         refl (λ before low. low)
-        (λ first is_first before p e agrees. (
-          asks_none client.txn e.failed.entries (known_of z old new events k.goes_on e agrees fault (inr (inl refl))),
-          record {
-            at = length seen;
-            fresh = fresh_end (length seen) refl before (last_still first it new.knows.participant before k.goes_on.seen p) e agrees;
-            base = t.last.segment.base;
-            based = (known_of z old new events k.goes_on e agrees found (inl refl)).1;
-            risen = base_risen t k.found first is_first before p;
-            behind = k.busy.below;
-          },
-        ))
+        (λ first is_first before p e agrees. let known = known_of z old new events k.goes_on e agrees fault (inr (inl refl)) in (asks_none client.txn e.failed.entries known.0, known.1 refl))
 
     pub renewed_answers : (done : Renewed) → Renews z old (Ok done) new → IsAnswered z old new client client command.Renew (reply.Renewed done.at done.carried)
     renewed_answers done k = (renewed_beside done k, λ world stands only first is_first store so. renewed_alone z first old new only store so (world, stands) is_first client done k)

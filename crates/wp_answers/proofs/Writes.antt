@@ -1,6 +1,6 @@
 -- What a client is answered that writes a change at once.
 use Rattle.std.proofs.Common.{◌≡◌, ⊎_elim, ℕ, List, [], ◌∷◌, length, Some, None, refl, sym, subst, ap, arith}
-use Rattle.std.specs.Prelude.{Result, Ok, Err}
+use Rattle.std.specs.Prelude.{Ok, Err}
 use Rattle.wp_model.specs.declared.change.Change.{Change}
 use Rattle.wp_model.specs.declared.change.Change.TheVariants as change
 use Rattle.wp_model.specs.declared.entry.Entry.{Entry}
@@ -33,7 +33,7 @@ use Rattle.wp_replies.specs.Replies.{Evidence, IsLoggedAt, IsBusy, Allows}
 use Rattle.wp_answers.proofs.Alone.Writes.{written_alone, busy_alone, stopped_alone, full_alone, fault_alone}
 use Rattle.wp_client.specs.declared.holdings.HeldTxn.TheVariants as held
 use Rattle.wp_client.specs.Answers.{IsExplained, Answers, BreaksOff, IsDue, IsAnswered}
-use Rattle.wp_client.specs.Holdings.{HoldingsState, HoldsTxn, Holds}
+use Rattle.wp_client.specs.Holdings.{HoldingsState, HoldsTxn, Holds, HoldsFrom}
 use Rattle.wp_client.specs.Replies.{asking, acknowledging, refusal}
 use Rattle.wp_answers.proofs.Putting.{one_answers}
 use Rattle.wp_client.proofs.Fitting.{Fits, else_answers}
@@ -43,7 +43,7 @@ use Rattle.wp_client.proofs.Holders.{found_busy}
 use Rattle.wp_client.proofs.Labels.{itself}
 use Rattle.wp_answers.proofs.Refused.{IsOfLog, IsLogged, ComesBefore, refused_answers, refused_holds}
 use Rattle.wp_client.proofs.Staged.{labels_same, last_same}
-use Rattle.wp_client.proofs.Staying.{holds_still, keeps_holds, broke_off, broke_off_after}
+use Rattle.wp_client.proofs.Staying.{holds_still, keeps_holds, has_now, holds_now, broke_off, broke_off_after}
 
 -- ---- the row
 
@@ -153,16 +153,20 @@ module _ {D : Type 0} (z : SharedState D) (old new : SeatState) (c : Change) (sn
   not_written_breaks LogFault none f = absurd cc
   not_written_breaks _ none f = absurd f.0
 
--- what the client has then: what it had
+-- what the client has then: no transaction, as before
+pub written_holds : {D : Type 0} (z : SharedState D) (old new : SeatState) (c : Change) (n : ℕ) → WritesDirect z old c (Ok n) new → HoldsFrom z old new held.Idle held.Idle
+written_holds z old new c n w h is has =
+    let idle = subst (HoldsTxn z old) is has.txn in let goes = w.1.1.goes_on in holds_now _ z old new _ goes held.Idle held.Idle refl (has_now _ z old new _ goes held.Idle held.Idle refl idle tt idle.only) h is has
+
+-- ... or what it had, where nothing is written
 module _ {D : Type 0} (z : SharedState D) (old new : SeatState) (c : Change) (h : HoldingsState) (has : Holds z old h) where
   log_leaves : (why : TxnError) → Refuses z old new 1 (λ (entries : List Entry). entries ≡ Write (c ∷ []) ∷ []) (writing_direct (key_of c) old.knows.participant) (wrote_direct (key_of c) old.knows.participant) why → Holds z new h
   log_leaves why f = refused_holds z old new 1 (λ (entries : List Entry). entries ≡ Write (c ∷ []) ∷ []) (writing_direct (key_of c) old.knows.participant) (wrote_direct (key_of c) old.knows.participant) refl refl refl why f h has
 
-  pub written_holds : (answer : Result ℕ TxnError) → WritesDirect z old c answer new → Holds z new h
-  written_holds (Ok n) w = holds_still z old new _ refl refl refl w.1.1.goes_on h has
-  written_holds (Err (Busy by)) f = holds_still z old new _ refl refl refl f.goes_on h has
-  written_holds (Err Memory) f = ⊎_elim (λ (k : Keeps z old new). keeps_holds z old new k h has) (λ (k : Continues z old new (wrote_direct (key_of c) old.knows.participant) × KeyIsFree z old new (key_of c)). holds_still z old new _ refl refl refl k.0 h has) f
-  written_holds (Err (NumbersFull published limit)) f = log_leaves (NumbersFull published limit) f.0
-  written_holds (Err (Stopped n)) f = log_leaves (Stopped n) f.0
-  written_holds (Err LogFault) f = log_leaves LogFault f.0
-  written_holds _ f = absurd f.0
+  pub not_written_holds : (why : TxnError) → WritesDirect z old c (Err why) new → Holds z new h
+  not_written_holds (Busy by) f = holds_still z old new _ refl refl refl f.goes_on h has
+  not_written_holds Memory f = ⊎_elim (λ (k : Keeps z old new). keeps_holds z old new k h has) (λ (k : Continues z old new (wrote_direct (key_of c) old.knows.participant) × KeyIsFree z old new (key_of c)). holds_still z old new _ refl refl refl k.0 h has) f
+  not_written_holds (NumbersFull published limit) f = log_leaves (NumbersFull published limit) f.0
+  not_written_holds (Stopped n) f = log_leaves (Stopped n) f.0
+  not_written_holds LogFault f = log_leaves LogFault f.0
+  not_written_holds _ f = absurd f.0

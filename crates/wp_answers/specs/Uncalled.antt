@@ -12,8 +12,9 @@ use Rattle.wp_maint.specs.Renewal.{Renews}
 use Rattle.wp_client.specs.declared.holdings.HeldTxn.{HeldTxn}
 use Rattle.wp_client.specs.declared.holdings.HeldTxn.TheVariants as held
 
--- The call that the command comes to says so itself, where memory was wanting: the seat appended no record and installed no edit, and gave
--- back the log, or the tables, or a renewal both, with their devices as they were. Other commands come to no call that calls a device.
+-- The call that the command comes to says so itself, where memory was wanting: the seat has no mark more of those that calls of a device
+-- leave, and gave back the log, or the tables, or a renewal both, with their devices as they were. Other commands come to no call that
+-- calls a device.
 abbrev pub CallsNoDevice : {D : Type 0} → SharedState D → SeatState → SeatState → Command → HeldTxn → Type 0
 CallsNoDevice z old new (command.Put key value) held.Idle = RefusesBeforeLog z (writing_direct key old.knows.participant) old Memory new
 CallsNoDevice z old new (command.Del key) held.Idle = RefusesBeforeLog z (writing_direct key old.knows.participant) old Memory new

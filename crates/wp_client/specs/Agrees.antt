@@ -1,11 +1,11 @@
 -- What a client is judged by agrees with what its seat saw, did and found.
-use Rattle.std.specs.Prelude.{◌≡◌, ◌⊎◌, ℕ, ◌≤◌, ◌<◌, true, List, take, Option, Some, None}
+use Rattle.std.specs.Prelude.{◌≡◌, ◌⊎◌, ℕ, ◌≤◌, ◌<◌, true, List, [], length, take, Option, Some, None}
 use Rattle.wp_model.specs.declared.holder.Holder.{Holder}
 use Rattle.wp_model.specs.declared.holder.Holder.TheVariants as holder
 use Rattle.wp_core.specs.Lists.{IsIn}
 use Rattle.wp_core.specs.Sound.Actors.{StartsWith}
 use Rattle.wp_core.specs.Sound.Locks.{HasKeyAt}
-use Rattle.wp_core.specs.Views.{Account, own, another, prepare_at, Event, heard, log_failed, tables_failed, stopped, found_edit, found}
+use Rattle.wp_core.specs.Views.{Account, own, another, prepare_at, Event, heard, log_failed, tables_failed, stopped, based_at, found_edit, found}
 use Rattle.wp_core.specs.World.{Participant}
 use Rattle.wp_model.specs.Flushed.{InstalledEdit}
 use Rattle.wp_rule.specs.Shows.{WasLast}
@@ -13,7 +13,7 @@ use Rattle.wp_shared.specs.Limits.{WasOpenedAt}
 use Rattle.wp_parts.specs.Parts.{content}
 use Rattle.wp_shared.specs.Seats.{SharedState}
 use Rattle.wp_client.specs.Alone.{limits_of}
-use Rattle.wp_replies.specs.Replies.{HasName, HasTaken, HasKey, WritesKey, WasTold, LogStopped, WasFlushed, WasBase, OtherCompacted, Evidence, IsKnown, WasUndecided, HadKey, IsHaltedAt}
+use Rattle.wp_replies.specs.Replies.{HasName, HasTaken, HasKey, WritesKey, WasTold, LogStopped, WasFlushed, WasBase, NoneRenewed, OtherCompacted, Evidence, IsKnown, WasUndecided, HadKey, IsHaltedAt}
 
 -- another client has the transaction of this name, and the key in it, where one is given; or it writes the key at once
 abbrev pub IsAnother : Evidence → Option (List ℕ) → Holder → Type 0
@@ -38,7 +38,8 @@ abbrev pub Knows : Evidence → Event → Type 0
 Knows e (found key holder seen account) = KnowsHolder e key holder seen account
 Knows e (heard label n) = (m : ℕ) → n ≤ m → IsKnown e (WasTold label m)
 Knows e (stopped n) = IsKnown e (LogStopped n)
-Knows e (log_failed entries) = e.failed.entries ≡ entries
+Knows e (based_at n base) = IsKnown e (WasBase base) × IsKnown e (NoneRenewed base n)
+Knows e (log_failed entries) = (e.failed.entries ≡ entries) × (entries ≡ [] → e.installed.segment.base < length e.history)
 Knows e (tables_failed last edit) = (e.installed ≡ last) × (e.failed.edit ≡ edit)
 Knows e (found_edit flushed base tables due halted) = IsKnown e (WasFlushed flushed) × IsKnown e (WasBase base) × (halted ≡ true → IsHaltedAt e flushed) × (tables < due → IsKnown e OtherCompacted)
 Knows e other = Unit {0}

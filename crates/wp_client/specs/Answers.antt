@@ -9,7 +9,7 @@ use Rattle.wp_text.specs.declared.reply.Reply.TheVariants as reply
 use Rattle.wp_core.specs.Lists.{IsIn, one_if, total}
 use Rattle.wp_core.specs.Sound.Actors.{StartsWith}
 use Rattle.wp_core.specs.Sound.Pasts.{tables_due}
-use Rattle.wp_core.specs.Views.{Event, claimed, took, locked, told, heard, installed, renewed, log_stopped, stopped, found_edit, found}
+use Rattle.wp_core.specs.Views.{Event, claimed, took, locked, told, heard, installed, renewed, log_stopped, stopped, based_at, found_edit, found}
 use Rattle.wp_core.specs.World.{Participant, World}
 use Rattle.wp_rule.specs.Shows.{WasLast}
 use Rattle.wp_parts.specs.Parts.{content}
@@ -66,10 +66,11 @@ explaining client other = None
 abbrev pub IsExplained : List ℕ → Txn → Command → Option Reply → Event → Type 0
 IsExplained client txn command answer event = IfSome (explaining client event) (λ is_such. is_such txn command answer ≡ true)
 
--- it tells of a holder, of a closed log or of the tables, as the seat found them
+-- it tells of a holder, of a closed log or its base, or of the tables, as the seat found them
 abbrev pub is_finding : Event → Bool
 is_finding (found key holder seen account) = true
 is_finding (stopped n) = true
+is_finding (based_at n base) = true
 is_finding (found_edit flushed base tables due halted) = true
 is_finding other = false
 

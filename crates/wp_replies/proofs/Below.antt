@@ -229,9 +229,9 @@ module _ (e : Evidence) (other : List Entry) (k : IsLike e other) where
         edit = subst (λ (x : InstalledEdit). IfSome e.failed.edit (λ edit. edit ≡ x)) (renewed_other f.at from f.fresh.1 f.place) f.edit;
       }
 
-  renews_other : (progress : Progress) (c : Command) → RenewsSomething e progress c → RenewsSomething with_other progress c
-  renews_other progress command.Renew r = record { at = r.at; fresh = fresh_other progress.last r.at r.fresh; base = r.base; based = r.based; risen = r.risen; behind = r.behind }
-  renews_other progress other_command r = tt
+  renews_other : (c : Command) → RenewsSomething e c → RenewsSomething with_other c
+  renews_other command.Renew below = let long = a.whole.long in omega (arith, below, long)
+  renews_other other_command below = tt
 
   -- ---- the rows
 
@@ -240,7 +240,7 @@ module _ (e : Evidence) (other : List Entry) (k : IsLike e other) where
 
   pub condition_other : (progress : Progress) (client : Client) (p : ℕ) (c : Command) (r : Reply) → IsFrom e.base e.history progress.last client → Condition e progress client p c r → Condition with_other progress client p c r
   condition_other progress client p c (reply.Full published most) f k = (k.0, fresh_other progress.last published k.1, k.2, k.3)
-  condition_other progress client p c reply.FaultLog f k = (k.0, renews_other progress c k.1)
+  condition_other progress client p c reply.FaultLog f k = (k.0, renews_other c k.1)
   condition_other progress client p c (reply.Stopped n) f k = (k.0, fresh_other progress.last n k.1, k.2)
   condition_other progress client p (command.Put key value) (reply.Put n) f k = (k.0, logged_other progress.last n _ f.last k.1)
   condition_other progress client p (command.Put key value) reply.Held f k = k

@@ -20,7 +20,7 @@ use Rattle.wp_replies.specs.declared.client.Txn.TheVariants.{Idle, Open, Prepare
 use Rattle.wp_replies.specs.Client.{Client}
 use Rattle.wp_replies.specs.After.{labels_after, after_reply}
 use Rattle.wp_replies.specs.Progress.{Progress, progress_after}
-use Rattle.wp_replies.specs.Replies.{Claim, Evidence, IsKnown, HasName, HasTaken, HasKey, WritesKey, WasTold, LogStopped, WasFlushed, WasBase, TablesFailed, OtherCompacted, refusal_of, IsFresh, IsLoggedAt, WasUndecided, HadKey, IsBusy, IsNameTaken, OwnSays, PreparesAt, CommitsAt, RollsBackAt, IsFlushCount, IsCompactionCount, RenewsSomething, HasNothingToRenew, HasNothingToFlush, HasNothingToMerge, FailsFlush, FailsCompaction, FailsRenewal, IsHaltedAt, Condition, UnlessRefused}
+use Rattle.wp_replies.specs.Replies.{Claim, Evidence, IsKnown, HasName, HasTaken, HasKey, WritesKey, WasTold, LogStopped, WasFlushed, WasBase, NoneRenewed, TablesFailed, OtherCompacted, refusal_of, IsFresh, IsLoggedAt, WasUndecided, HadKey, IsBusy, IsNameTaken, OwnSays, PreparesAt, CommitsAt, RollsBackAt, IsFlushCount, IsCompactionCount, HadBase, RenewsSomething, HasNothingToRenew, HasNothingToFlush, HasNothingToMerge, FailsFlush, FailsCompaction, FailsRenewal, IsHaltedAt, Condition, UnlessRefused}
 use Rattle.wp_replies.specs.Session.{IsSession}
 use Rattle.wp_replies.specs.Tables.{unflushed, after_flush, listed, after_compaction, after_renewal}
 
@@ -155,9 +155,12 @@ compaction_count_more h more base n versions low le count = λ keys has.
 nothing_to_renew_more : (e : Evidence) (more : List Entry) (later : Claim → Bool) → KnowsMore e later → (last : ℕ) → HasNothingToRenew e last → HasNothingToRenew (grown e more later) last
 nothing_to_renew_more e more later f last (base, was, low) = (base, f (WasBase base) was, low)
 
-renews_more : (e : Evidence) (more : List Entry) (later : Claim → Bool) → KnowsMore e later → (progress : Progress) (c : Command) → RenewsSomething e progress c → RenewsSomething (grown e more later) progress c
-renews_more e more later f progress command.Renew k = record { at = k.at; fresh = fresh_more e.history more progress.last k.at k.fresh; base = k.base; based = f (WasBase k.base) k.based; risen = k.risen; behind = k.behind }
-renews_more e more later f progress other k = tt
+had_base_more : (e : Evidence) (more : List Entry) (later : Claim → Bool) → KnowsMore e later → (progress : Progress) (at base : ℕ) → HadBase e progress at base → HadBase (grown e more later) progress at base
+had_base_more e more later f progress at base k = (f (WasBase base) k.0, k.1, k.2, f (NoneRenewed base at) k.3)
+
+renews_more : (e : Evidence) (more : List Entry) (later : Claim → Bool) (c : Command) → RenewsSomething e c → RenewsSomething (grown e more later) c
+renews_more e more later command.Renew below = let size = length-append e.history more in omega (arith, below, size)
+renews_more e more later other below = tt
 
 -- ---- the client
 
@@ -175,8 +178,8 @@ snapshots_after p client c r = refl
 -- ---- the rows
 
 condition_more : (e : Evidence) (more : List Entry) (later : Claim → Bool) → e.base ≤ length e.history → KnowsMore e later → (progress : Progress) (client : Client) (p : ℕ) (c : Command) (r : Reply) → Condition e progress client p c r → Condition (grown e more later) progress client p c r
-condition_more e more later within f progress client p c (reply.Full published most) k = (k.0, fresh_more e.history more progress.last published k.1, k.2, k.3)
-condition_more e more later within f progress client p c reply.FaultLog k = (k.0, renews_more e more later f progress c k.1)
+condition_more e more later within f progress client p c (reply.Full published most) k = (k.0, fresh_more e.history more progress.last published k.1, (k.2.0, had_base_more e more later f progress published k.2.0 k.2.1, k.2.2), k.3)
+condition_more e more later within f progress client p c reply.FaultLog k = (k.0, renews_more e more later c k.1)
 condition_more e more later within f progress client p c (reply.Stopped n) k = (k.0, fresh_more e.history more progress.last n k.1, f (LogStopped n) k.2)
 condition_more e more later within f progress client p (command.Put key value) (reply.Put n) k = (k.0, logged_more e.history more progress.last n _ k.1)
 condition_more e more later within f progress client p (command.Put key value) reply.Held k = k

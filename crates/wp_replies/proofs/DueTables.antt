@@ -6,6 +6,7 @@ use Rattle.std.proofs.lemmas.Bool.{cases_Bool, cases_lt, or_cases, or_left, or_r
 use Rattle.std.proofs.lemmas.List.{take-append-drop}
 use Rattle.wp_model.specs.declared.entry.Entry.{Entry}
 use Rattle.wp_model.specs.Legal.{changes_in}
+use Rattle.wp_model.specs.declared.segment.Segment.{Segment}
 use Rattle.wp_model.specs.declared.version.Version.{Version}
 use Rattle.wp_model.specs.Covered.{is_among}
 use Rattle.wp_model.specs.Flushed.{InstalledEdit, versions_under, versions_after, later_versions}
@@ -23,7 +24,7 @@ use Rattle.wp_replies.specs.declared.client.Txn.TheVariants.{Idle, Open, Prepare
 use Rattle.wp_replies.specs.Alike.{AreFrom}
 use Rattle.wp_replies.specs.Client.{Client, numbers_of, live_of}
 use Rattle.wp_replies.specs.Kind.{calls_log, is_fault, is_installed, is_tables_fault}
-use Rattle.wp_replies.specs.Replies.{LogStopped, OtherCompacted, IsKnown, refusal_of, AsksFor, FailsFlush, FailsCompaction, FailsRenewal, HasMoreThanBase, IsCompactionCount, HasNothingToMerge, IsHaltedAt}
+use Rattle.wp_replies.specs.Replies.{LogStopped, OtherCompacted, IsKnown, refusal_of, AsksFor, FailsFlush, FailsCompaction, FailsRenewal, IsCompactionCount, HasNothingToMerge, IsHaltedAt}
 use Rattle.wp_replies.specs.Due.{unless_halted, flushed, due, IsReply}
 use Rattle.wp_replies.specs.Tables.{unflushed, listed, retained}
 use Rattle.wp_replies.proofs.Below.{joined_from}
@@ -183,9 +184,9 @@ asks_none (Prepared p) entries none = none
 
 -- the base goes up
 base_below : {client : Client} {answer : Reply} (s : Scene client command.Renew answer) → (s.given.devices.installed.segment.base == length (front s)) ≡ false → s.given.devices.installed.segment.base < length (front s)
-base_below s differs = let size = front_size s in let risen = s.given.known.risen in elim (cases_lt s.given.devices.installed.segment.base (length (front s))) [
+base_below s differs = let size = front_size s in let within = s.given.known.based.2 in elim (cases_lt s.given.devices.installed.segment.base (length (front s))) [
   | inl lower ↦ lower
-  | inr high ↦ absurd (true≢false (sym (eq-eqb s.given.devices.installed.segment.base (length (front s)) (omega (arith, size, risen.1, high))) ∙ differs))
+  | inr high ↦ absurd (true≢false (sym (eq-eqb s.given.devices.installed.segment.base (length (front s)) (omega (arith, size, within, high))) ∙ differs))
 ]
 
 renewal_fails : {client : Client} {answer : Reply} (s : Scene client command.Renew answer) → (s.given.devices.installed.segment.base == length (front s)) ≡ false → is_tables_fault answer ≡ true → FailsRenewal s.evidence s.progress.last
@@ -203,7 +204,7 @@ renew_allowed {client = client} {answer = answer} s = by_condition s refl (by s.
   where
     -- ... above the one that the client knows of
     below : (s.given.devices.installed.segment.base == length (front s)) ≡ false → s.progress.base < length (front s)
-    below differs = let risen = s.given.known.risen in let installed = base_below s differs in omega (arith, risen.0, installed)
+    below differs = let risen = s.given.known.based.1 in let installed = base_below s differs in omega (arith, risen, installed)
 
     by_due : (r : Reply) → r ≡ due (store_in s) client command.Renew → ConditionOf s r
     by_due r is = elim (cases_Bool s.given.devices.halted) [
@@ -216,7 +217,7 @@ renew_allowed {client = client} {answer = answer} s = by_condition s refl (by s.
           | inl same ↦
               let answered : r ≡ reply.Nothing = rw (runs, open_, same) at is in
               let at = eqb-true s.given.devices.installed.segment.base (length (front s)) same in
-              subst (ConditionOf s) (sym answered) (s.given.devices.installed.segment.base, s.given.known.based, omega (arith, at, (front_fresh s).0))
+              subst (ConditionOf s) (sym answered) (s.given.devices.installed.segment.base, s.given.known.based.0, omega (arith, at, (front_fresh s).0))
           | inr differs ↦
               let answered : r ≡ reply.Renewed (length (front s)) (length (undecided (front s))) = rw (runs, open_, differs) at is in
               subst (ConditionOf s) (sym answered) (front_fresh s, below differs, ap (λ (f : List Entry). length (undecided f)) (sym (at_front s)))
@@ -224,15 +225,8 @@ renew_allowed {client = client} {answer = answer} s = by_condition s refl (by s.
       ]
     ]
 
-    more : (s.given.devices.installed.segment.base == length (front s)) ≡ false → HasMoreThanBase s.evidence s.progress
-    more other = record {
-      at = length (front s);
-      fresh = front_fresh s;
-      base = s.given.devices.installed.segment.base;
-      based = s.given.known.based;
-      risen = s.given.known.risen.0;
-      behind = base_below s other;
-    }
+    more : s.given.devices.installed.segment ≡ s.evidence.installed.segment → (s.given.devices.installed.segment.base == length (front s)) ≡ false → s.evidence.installed.segment.base < length s.evidence.history
+    more segment other = let same = ap (λ (x : Segment). x.base) segment in let below = base_below s other in let high = (front_fresh s).1 in omega (arith, same, below, high)
 
     -- what installs an edit, or calls the log, found another base
     differs : (is_such : Reply → Bool) → is_such (reply.Halted s.given.devices.installed.flushed) ≡ false → is_such (reply.Stopped (length (front s))) ≡ false → is_such reply.Nothing ≡ false
@@ -250,5 +244,5 @@ renew_allowed {client = client} {answer = answer} s = by_condition s refl (by s.
 
     by : IsReply (store_in s) client command.Renew answer → ConditionOf s answer
     by (inl is) = by_due answer is
-    by (inr (inl failed)) = subst (ConditionOf s) (sym failed.0) (asks_none client.txn s.evidence.failed.entries (s.given.asked (ap is_fault failed.0)), more (differs calls_log refl refl refl failed.1))
+    by (inr (inl failed)) = subst (ConditionOf s) (sym failed.0) (let asked = s.given.asked (ap is_fault failed.0) in (asks_none client.txn s.evidence.failed.entries asked.0, more asked.1 (differs calls_log refl refl refl failed.1)))
     by (inr (inr failed)) = subst (ConditionOf s) (sym failed.0) (renewal_fails s (differs is_installed refl refl refl failed.1) (ap is_tables_fault failed.0))

@@ -17,7 +17,7 @@ use Rattle.wp_replies.specs.Alike.{AreFrom}
 use Rattle.wp_replies.specs.Client.{Client, AreWithin}
 use Rattle.wp_replies.specs.Kind.{Kind, Logged, kind, is_logged, says_logged, is_fault, is_installed, says_installed, calls_log}
 use Rattle.wp_replies.specs.Progress.{Progress}
-use Rattle.wp_replies.specs.Replies.{LogStopped, Evidence, IsKnown, refusal_of, IsFresh, IsLoggedAt, TxnIsWithin, needed, AsksFor, RenewsSomething, Condition, UnlessRefused, Allows}
+use Rattle.wp_replies.specs.Replies.{LogStopped, Evidence, IsKnown, refusal_of, IsFresh, IsLoggedAt, TxnIsWithin, needed, AsksFor, HadBase, RenewsSomething, Condition, UnlessRefused, Allows}
 use Rattle.wp_replies.specs.Plan.{plan, asked_of, next}
 use Rattle.wp_replies.specs.Due.{Store, logged, reply_to, due, IsReply, logged_entries, taken}
 use Rattle.wp_replies.specs.Moments.{store_at, IsDueFrom}
@@ -118,6 +118,10 @@ said {client = client} s made is plain = answered s made (ap (reply_to (store_in
 pub say_refused : {client : Client} {c : Command} {answer : Reply} (s : Scene client c answer) (made : Reply) → plan (front s) client c ≡ Say made → may_fail made ≡ false → refusal_of client c ≡ Some made → IsAllowed s
 say_refused {client = client} {c = c} {answer = answer} s made is plain refused = subst (λ (o : Option Reply). UnlessRefused o answer (ConditionOf s answer)) (sym refused) (said s made is plain)
 
+-- the base of the devices is the one of so many entries
+had_base : {client : Client} {c : Command} {answer : Reply} (s : Scene client c answer) → HadBase s.evidence s.progress (length (front s)) s.given.devices.installed.segment.base
+had_base s = subst (λ (n : ℕ). HadBase s.evidence s.progress n s.given.devices.installed.segment.base) (sym (front_size s)) s.given.known.based
+
 pub by_condition : {client : Client} {c : Command} {answer : Reply} (s : Scene client c answer) → refusal_of client c ≡ None → ConditionOf s answer → IsAllowed s
 by_condition {client = client} {c = c} {answer = answer} s free condition = subst (λ (o : Option Reply). UnlessRefused o answer (ConditionOf s answer)) (sym free) condition
 
@@ -143,11 +147,11 @@ logged_uninstalled store count made logs installs =
     ]
 
 -- a command that needs an entry is no renewal
-pub needs_no_renewal : (e : Evidence) (progress : Progress) (txn : Txn) (c : Command) → 1 ≤ needed txn c → RenewsSomething e progress c
-needs_no_renewal e progress Idle command.Renew some = absurd (omega (arith, some))
-needs_no_renewal e progress (Open own) command.Renew some = absurd (omega (arith, some))
-needs_no_renewal e progress (Prepared p) command.Renew some = absurd (omega (arith, some))
-needs_no_renewal e progress txn other some = tt
+pub needs_no_renewal : (e : Evidence) (txn : Txn) (c : Command) → 1 ≤ needed txn c → RenewsSomething e c
+needs_no_renewal e Idle command.Renew some = absurd (omega (arith, some))
+needs_no_renewal e (Open own) command.Renew some = absurd (omega (arith, some))
+needs_no_renewal e (Prepared p) command.Renew some = absurd (omega (arith, some))
+needs_no_renewal e txn other some = tt
 
 -- the log takes so many entries, and the reply is this one; or it refuses them
 pub log_allowed : {client : Client} {c : Command} {answer : Reply} (s : Scene client c answer) (count : ℕ) (made : Reply) → refusal_of client c ≡ None → needed client.txn c ≡ count → 1 ≤ count → AsksFor client.txn c (asked_of (plan (front s) client c))
@@ -167,7 +171,7 @@ log_allowed {client = client} {c = c} {answer = answer} s count made free needs 
             | inl over ↦
                 let answered : answer ≡ reply.Full (length (front s)) s.given.devices.limit = rw (runs, over) at is in
                 let past : s.given.devices.limit < length (front s) + needed client.txn c = omega (arith, needs, ltb-true _ _ over) in
-                subst (ConditionOf s) (sym answered) (needs_some, front_fresh s, s.given.known.limit, past)
+                subst (ConditionOf s) (sym answered) (needs_some, front_fresh s, (s.given.devices.installed.segment.base, had_base s, s.given.known.limit), past)
             | inr room ↦
                 let answered : answer ≡ made = rw (runs, room) at is in
                 subst (ConditionOf s) (sym answered) (condition answered)
@@ -176,7 +180,7 @@ log_allowed {client = client} {c = c} {answer = answer} s count made free needs 
 
     by : IsReply (store_in s) client c answer → ConditionOf s answer
     by (inl is) = on_log (is ∙ due_is)
-    by (inr (inl fault)) = subst (ConditionOf s) (sym fault.0) (subst (AsksFor client.txn c) (sym (s.given.asked (ap is_fault fault.0))) asks, needs_no_renewal s.evidence s.progress client.txn c needs_some)
+    by (inr (inl fault)) = subst (ConditionOf s) (sym fault.0) (subst (AsksFor client.txn c) (sym (s.given.asked (ap is_fault fault.0)).0) asks, needs_no_renewal s.evidence client.txn c needs_some)
     by (inr (inr fault)) = let installs : is_installed (logged (store_in s) count made) ≡ true = subst (λ (r : Reply). is_installed r ≡ true) due_is fault.1 in absurd (logged_uninstalled (store_in s) count made logs installs)
 
 -- the entries of a reply that acknowledges them

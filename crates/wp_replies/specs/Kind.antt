@@ -1,5 +1,5 @@
 -- What a reply says of the history: the one list of all replies that say something.
-use Rattle.std.specs.Prelude.{ℕ, zero, suc, ◌-◌, ◌==◌, ◌||◌, Bool, true, false, List, [], ◌∷◌, ◌++◌, Option, Some, None, min, unwrap_or}
+use Rattle.std.specs.Prelude.{ℕ, zero, suc, ◌-◌, ◌==◌, ◌&&◌, ◌||◌, Bool, true, false, nat_lt, List, [], ◌∷◌, ◌++◌, Option, Some, None, min, unwrap_or}
 use Rattle.wp_text.specs.declared.script.Command.{Command}
 use Rattle.wp_text.specs.declared.script.Command.TheVariants as command
 use Rattle.wp_text.specs.declared.reply.Reply.{Reply}
@@ -101,6 +101,14 @@ says_based n other = false
 -- n is the base of the log from its command on
 abbrev pub is_based : ℕ → Reply → Bool
 is_based n answer = says_based n (kind answer)
+
+abbrev pub says_renewed_between : (base n : ℕ) → Kind → Bool
+says_renewed_between base n (Renewed at) = nat_lt base at && nat_lt at n
+says_renewed_between base n other = false
+
+-- the log was renewed at its command, at a number above the first one and below the second
+abbrev pub is_renewed_between : (base n : ℕ) → Reply → Bool
+is_renewed_between base n answer = says_renewed_between base n (kind answer)
 
 abbrev pub says_renewed : Kind → Bool
 says_renewed (Renewed n) = true

@@ -1,5 +1,5 @@
 -- What is known of the others: what one history says, and what all clients were answered.
-use Rattle.std.specs.Prelude.{ℕ, ◌==◌, ◌&&◌, ◌||◌, Bool, false, nat_le, List, [], ◌∷◌, length, Option, Some, None}
+use Rattle.std.specs.Prelude.{ℕ, ◌==◌, ◌&&◌, ◌||◌, Bool, false, not, nat_le, List, [], ◌∷◌, length, Option, Some, None}
 use Rattle.std.specs.List.{filter, flat_map, list_any}
 use Rattle.std.specs.Str.{bytes_eq}
 use Rattle.wp_model.specs.declared.entry.Entry.{Entry}
@@ -13,9 +13,9 @@ use Rattle.wp_replies.specs.declared.client.Txn.{Txn}
 use Rattle.wp_replies.specs.declared.client.Txn.TheVariants.{Idle, Open}
 use Rattle.wp_replies.specs.Client.{Client, new_client}
 use Rattle.wp_replies.specs.After.{after_reply}
-use Rattle.wp_replies.specs.Kind.{is_flushed, is_based, is_compacted, is_tables_fault, stops_log}
+use Rattle.wp_replies.specs.Kind.{is_flushed, is_based, is_renewed_between, is_compacted, is_tables_fault, stops_log}
 use Rattle.wp_replies.specs.Progress.{Progress}
-use Rattle.wp_replies.specs.Replies.{Claim, HasName, HasTaken, HasKey, WritesKey, WasTold, LogStopped, WasFlushed, WasBase, TablesFailed, OtherCompacted, Untaken, Limits, Evidence}
+use Rattle.wp_replies.specs.Replies.{Claim, HasName, HasTaken, HasKey, WritesKey, WasTold, LogStopped, WasFlushed, WasBase, NoneRenewed, TablesFailed, OtherCompacted, Untaken, Limits, Evidence}
 
 -- what a store has on its devices: a history, and the last edit of the tables
 pub record StoredState : Type 0 where
@@ -107,6 +107,7 @@ is_said history found all others (WasTold label n) = one_comes_to (tells label n
 is_said history found all others (LogStopped n) = (n == length history) && list_any has_stop all
 is_said history found all others (WasFlushed n) = (n == found.edit.flushed) || list_any (is_flushed n) (answers_in all)
 is_said history found all others (WasBase n) = (n == found.edit.segment.base) || list_any (is_based n) (answers_in all)
+is_said history found all others (NoneRenewed base n) = not (list_any (is_renewed_between base n) (answers_in all))
 is_said history found all others TablesFailed = list_any is_tables_fault (answers_in all)
 is_said history found all others OtherCompacted = list_any is_compacted (answers_in others)
 

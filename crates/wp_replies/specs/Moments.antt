@@ -15,7 +15,7 @@ use Rattle.wp_replies.specs.Due.{Store, IsReply, logged_entries, edit_of, client
 use Rattle.wp_replies.specs.Kind.{is_fault, is_tables_fault, fresh_in}
 use Rattle.wp_replies.specs.Plan.{plan, asked_of}
 use Rattle.wp_replies.specs.Progress.{Progress, knows_label, progress_after}
-use Rattle.wp_replies.specs.Replies.{WasTold, LogStopped, WasFlushed, WasBase, TablesFailed, OtherCompacted, Evidence, IsKnown, IsLimit}
+use Rattle.wp_replies.specs.Replies.{WasTold, LogStopped, WasFlushed, TablesFailed, OtherCompacted, Evidence, IsKnown, HadBase, limit_at_base}
 
 -- what a store has beside its history
 pub record Devices : Type 0 where
@@ -41,17 +41,16 @@ pub record AreStored (base : ℕ) (history : List Entry) (edit : InstalledEdit) 
   pub part : (key : List ℕ) (p : ℕ) (value : Option (List ℕ)) → version_at edit.versions key p ≡ Some value → (entry_version history p key ≡ Some value) × (p ≤ length history)
   pub gives : (key : List ℕ) → GivesStore edit.versions history key base
 
--- What is known of the others fits the devices when so many entries were published: what has failed, and which number the edit
--- has, which is the last one once the tables' devices failed; and its base, no lower than the client knows of. The edit has as many tables as the client knows of, unless
--- another client made them one, and they have what is stored. What is on the board was told, and each label is there that the client
--- knows.
+-- What is known of the others fits the devices when so many entries were published: what has failed, and which number the edit has, which
+-- is the last one once the tables' devices failed; and its base, with the limit that the log has then. The edit has as many tables as the
+-- client knows of, unless another client made them one, and they have what is stored. What is on the board was told, and each label is
+-- there that the client knows.
 pub record AreKnown (evidence : Evidence) (at : ℕ) (progress : Progress) (devices : Devices) : Type 0 where
   pub stopped : devices.stopped ≡ true → IsKnown evidence (LogStopped at)
-  pub limit : IsLimit evidence progress.base devices.limit
+  pub limit : devices.limit ≡ limit_at_base evidence devices.installed.segment.base
   pub halted : devices.halted ≡ true → (devices.installed.flushed ≡ evidence.installed.flushed) × IsKnown evidence TablesFailed
   pub flushed : IsKnown evidence (WasFlushed devices.installed.flushed)
-  pub based : IsKnown evidence (WasBase devices.installed.segment.base)
-  pub risen : (progress.base ≤ devices.installed.segment.base) × (devices.installed.segment.base ≤ at)
+  pub based : HadBase evidence progress at devices.installed.segment.base
   pub counted : (progress.tables ≤ devices.installed.tables) ⊎ IsKnown evidence OtherCompacted
   pub stored : AreStored evidence.base (take at evidence.history) devices.installed
   pub told : (label : List ℕ) (n : ℕ) → map.get devices.board label ≡ Some n → IsKnown evidence (WasTold label at)
@@ -71,8 +70,8 @@ pub record IsDueFrom (evidence : Evidence) (from : ℕ) (progress : Progress) (c
   pub replied : IsReply (store_at evidence devices before) client command answer
   pub logged : take after evidence.history ≡ take before evidence.history ++ logged_entries (store_at evidence devices before) client command answer
   pub fresh : IfSome (fresh_in command answer) (λ n. (before ≤ n) × (n ≤ after))
-  -- what the log failed to take is what the command asked for
-  pub asked : is_fault answer ≡ true → evidence.failed.entries ≡ asked_of (plan (take before evidence.history) client command)
+  -- what the log failed to take is what the command asked for, and it stays in the segment that it has
+  pub asked : is_fault answer ≡ true → (evidence.failed.entries ≡ asked_of (plan (take before evidence.history) client command)) × (devices.installed.segment ≡ evidence.installed.segment)
   -- likewise the tables, which have the last edit then
   pub asked_edit : is_tables_fault answer ≡ true → IfSome evidence.failed.edit (λ edit. edit ≡ edit_of place (store_at evidence devices before) client (plan (take before evidence.history) client command)) × (devices.installed ≡ evidence.installed)
 

@@ -38,6 +38,7 @@ pub data Claim : Type 0 where
   LogStopped : ℕ → Claim  -- a client was answered `fault log`, or `fault tables` to `renew`, and so many entries are all of the history
   WasFlushed : ℕ → Claim  -- this was the flushed number at opening, or a client was answered `flushed` or `renewed` with it
   WasBase : ℕ → Claim  -- this was the base of the log at opening, or a client was answered `renewed` with it
+  NoneRenewed : ℕ → ℕ → Claim  -- no client was answered `renewed` with a number above the first one and below the second
   TablesFailed : Claim  -- a client was answered `fault tables`
   OtherCompacted : Claim  -- another client was answered `compacted`
 
@@ -196,24 +197,26 @@ AsksFor txn other entries = ⊥
 
 -- ---- the log
 
--- It is the limit of the log as it was opened, where the client was answered of no renewal of its own; or that of the log once renewed.
-abbrev pub IsLimit : Evidence → (base : ℕ) → ℕ → Type 0
-IsLimit evidence base most = ((most ≡ evidence.limits.opened) × (base ≡ evidence.base)) ⊎ (most ≡ evidence.limits.renewed)
+-- The log had this base when so many entries were published: it is no lower than the client knows of, and nobody renewed the log between
+-- the two.
+abbrev pub HadBase : Evidence → Progress → (at base : ℕ) → Type 0
+HadBase evidence progress at base = IsKnown evidence (WasBase base) × (progress.base ≤ base) × (base ≤ at) × IsKnown evidence (NoneRenewed base at)
 
--- There was something to renew when so many entries were published, and the client had seen nothing later: the base was below that
--- number, and no lower than the client knows of.
-pub record HasMoreThanBase (evidence : Evidence) (progress : Progress) : Type 0 where
-  pub at : ℕ
-  pub fresh : IsFresh evidence.history progress.last at
-  pub base : ℕ
-  pub based : IsKnown evidence (WasBase base)
-  pub risen : progress.base ≤ base
-  pub behind : base < at
+-- the greatest number of an entry, while the log has this base
+abbrev pub limit_at_base : Evidence → (base : ℕ) → ℕ
+limit_at_base evidence base = if base == evidence.base then evidence.limits.opened else evidence.limits.renewed
 
--- ... where the command is a renewal; of others nothing is asked
-abbrev pub RenewsSomething : Evidence → Progress → Command → Type 0
-RenewsSomething evidence progress command.Renew = HasMoreThanBase evidence progress
-RenewsSomething evidence progress other = Unit {0}
+-- It is the limit of the log with the base that it had when so many entries were published. So it is that of the log as it was opened
+-- only where nobody, the client or another, was answered of a renewal below that number, and that of a renewed log only where somebody
+-- was; unless the two are the same.
+abbrev pub IsLimit : Evidence → Progress → (published most : ℕ) → Type 0
+IsLimit evidence progress published most = (base : ℕ) × HadBase evidence progress published base × (most ≡ limit_at_base evidence base)
+
+-- Where the log failed in a renewal, there was something to renew: the base was below what was published. It is that of the last edit still,
+-- and nothing more was published, since the log takes nothing from there on. Of other commands nothing is asked.
+abbrev pub RenewsSomething : Evidence → Command → Type 0
+RenewsSomething evidence command.Renew = evidence.installed.segment.base < length evidence.history
+RenewsSomething evidence other = Unit {0}
 
 -- Nothing was to be renewed: what the client had seen goes no further than a number that was the base.
 abbrev pub HasNothingToRenew : Evidence → ℕ → Type 0
@@ -292,8 +295,8 @@ IsHaltedAt evidence flushed = (flushed ≡ evidence.installed.flushed) × IsKnow
 -- A row for each command and reply, by what the client knows then; `took` gives the prepare with the number p. Of `held`,
 -- `freed`, `begun`, `dropped` and `left` the client's state alone decides.
 abbrev pub Condition : Evidence → Progress → Client → ℕ → Command → Reply → Type 0
-Condition evidence progress client p command (reply.Full published most) = (1 ≤ needed client.txn command) × IsFresh evidence.history progress.last published × IsLimit evidence progress.base most × (most < published + needed client.txn command)
-Condition evidence progress client p command reply.FaultLog = AsksFor client.txn command evidence.failed.entries × RenewsSomething evidence progress command
+Condition evidence progress client p command (reply.Full published most) = (1 ≤ needed client.txn command) × IsFresh evidence.history progress.last published × IsLimit evidence progress published most × (most < published + needed client.txn command)
+Condition evidence progress client p command reply.FaultLog = AsksFor client.txn command evidence.failed.entries × RenewsSomething evidence command
 Condition evidence progress client p command (reply.Stopped n) = IsOfLog client.txn command × IsFresh evidence.history progress.last n × IsKnown evidence (LogStopped n)
 Condition evidence progress client p (command.Put key value) (reply.Put n) = (client.txn ≡ Idle) × IsLoggedAt evidence.history progress.last n (entry.Write (change.Put key value ∷ []))
 Condition evidence progress client p (command.Put key value) reply.Held = TxnIsOpen client.txn

@@ -1,9 +1,9 @@
 -- What the replies of all clients say at the end agrees with each seat.
-use Rattle.std.proofs.Common.{◌≡◌, ◌≢◌, ◌⊎◌, inl, inr, ℕ, ◌≤◌, ◌<◌, Bool, true, false, List, ◌∷◌, ◌++◌, length, map, take, Option, Some, None, refl, sym, subst, ap, ◌∙◌, arith}
-use Rattle.std.specs.Prelude.{◌==◌, ◌&&◌, nat_le}
+use Rattle.std.proofs.Common.{◌≡◌, ◌≢◌, ◌⊎◌, inl, inr, ℕ, ◌≤◌, ◌<◌, Bool, true, false, List, [], ◌∷◌, ◌++◌, length, map, take, Option, Some, None, refl, sym, subst, ap, ◌∙◌, arith}
+use Rattle.std.specs.Prelude.{◌==◌, ◌&&◌, not, nat_le, nat_lt}
 use Rattle.std.specs.List.{list_any}
 use Rattle.std.specs.Str.{bytes_eq}
-use Rattle.std.proofs.lemmas.Bool.{eq-eqb, le-leb, leb-true, or_left, or_right}
+use Rattle.std.proofs.lemmas.Bool.{cases_Bool, eq-eqb, le-leb, leb-true, ltb-true, or_left, or_right}
 use Rattle.std.proofs.lemmas.Slice.Eq.{bytes_eq-Decides}
 use mathlib.Core.Option.{some}
 use lib.ListN.{get_elem?}
@@ -22,9 +22,9 @@ use Rattle.wp_text.specs.declared.reply.Reply.TheVariants as reply
 use Rattle.wp_core.specs.Lists.{IsIn}
 use Rattle.wp_core.specs.Sound.Actors.{seen_of}
 use Rattle.wp_core.specs.Sound.Locks.{WasPrepared}
-use Rattle.wp_core.specs.Sound.Pasts.{HasDone, IsPast, MadeHolder, IsAccounted, raised_to, WasInstalled, WasBased, past_of}
+use Rattle.wp_core.specs.Sound.Pasts.{HasDone, IsPast, MadeHolder, IsAccounted, raised_to, WasInstalled, WasBased, NoneBetween, past_of}
 use Rattle.wp_core.proofs.Frames.{at_map}
-use Rattle.wp_core.specs.Views.{Account, own, another, prepare_at, Event, claimed, took, locked, told, heard, installed, renewed, log_failed, tables_failed, stopped, found_edit, found}
+use Rattle.wp_core.specs.Views.{Account, own, another, prepare_at, Event, claimed, took, locked, told, heard, installed, renewed, log_failed, tables_failed, stopped, based_at, found_edit, found}
 use Rattle.wp_core.specs.World.{Participant}
 use Rattle.wp_rule.proofs.Knows.{one_was_first}
 use Rattle.wp_shared.specs.Limits.{WasOpenedAt}
@@ -34,17 +34,19 @@ use Rattle.wp_shared.specs.Ended.{IsEnded, of_seats}
 use Rattle.wp_shared.specs.Seats.{participant_of, SharedState, SeatState}
 use Rattle.wp_replies.specs.declared.client.Txn as session_txn
 use Rattle.wp_replies.specs.Client.{new_client}
-use Rattle.wp_replies.specs.Explains.{dialogues, judged_by}
-use Rattle.wp_replies.specs.Kind.{is_flushed, is_based, is_compacted}
+use Rattle.wp_replies.specs.Explains.{dialogues, all_replies, judged_by}
+use Rattle.wp_replies.specs.Kind.{is_flushed, is_based, is_renewed_between, is_compacted}
 use Rattle.wp_replies.specs.Known.{Dialogue, has_stop, answers_in, comes_to, gets_name, takes_name, stages_key, writes_key, tells}
-use Rattle.wp_replies.specs.Replies.{WasTold, WasFlushed, WasBase, TablesFailed, OtherCompacted, Evidence, IsKnown}
+use Rattle.wp_replies.specs.Replies.{WasTold, WasFlushed, WasBase, NoneRenewed, TablesFailed, OtherCompacted, Evidence, IsKnown}
 use Rattle.wp_client.specs.Alone.{limits_of}
+use Rattle.wp_client.specs.Answers.{IsRemembered}
 use Rattle.wp_client.specs.Agrees.{IsAnother, IsPrepares, KnowsHolder, Knows, Agrees}
 use Rattle.wp_threads.specs.Explained.{found_in, left_in, failed_in}
 use Rattle.wp_threads.specs.Over.{Answered, AreOver, replies_of}
 use Rattle.wp_threads.specs.SoFar.{IsFound}
 use Rattle.wp_model.proofs.Tests.{same_some, both}
 use Rattle.wp_threads.proofs.Coming.{comes_wider, comes_answered, renewal_answered, answers_any}
+use Rattle.wp_threads.proofs.Counted.{same_replies, remembers}
 use Rattle.wp_threads.proofs.Doings.{Did, did, took_name, wrote_key}
 use Rattle.wp_threads.proofs.Lists.{both_so, any_at, any_other, any_filter}
 
@@ -63,6 +65,12 @@ tells_more label n m le t (command.Tell other) (Some (reply.Told k)) is =
     let low : k ≤ n = leb-true k n parts.1 in
     rw (parts.0, le-leb k m (omega (arith, low, le))) refl
 tells_more label n m le t c a is = absurd cc
+
+-- the renewal that a reply tells of is remembered, with the base that it tells
+renewed_there : (past : List Event) (base n : ℕ) (r : Reply) → is_renewed_between base n r ≡ true → IsRemembered past r → (edit : InstalledEdit) × IsIn (renewed edit) past × (base < edit.segment.base) × (edit.segment.base < n)
+renewed_there past base n (reply.Renewed at carried) is (edit, based, flushed, there) =
+    let parts = both (nat_lt base at) (nat_lt at n) is in let low = ltb-true base at parts.0 in let high = ltb-true at n parts.1 in (edit, there, omega (arith, low, based), omega (arith, high, based))
+renewed_there past base n other is k = absurd cc
 
 module _ {D : Type 0} {z : SharedState D} {seats : List SeatState} {history : List Entry} {left : DevicesLeft} (ended : IsEnded z seats history left) (parts : List Part) (answered : List Answered) (over : AreOver z (found_in ended) parts answered seats) (before : List Dialogue) (mine : Dialogue) (after : List Dialogue)
     (split : dialogues parts (replies_of answered) ≡ before ++ mine ∷ after) where
@@ -148,6 +156,21 @@ module _ {D : Type 0} {z : SharedState D} {seats : List SeatState} {history : Li
       or_right (n == ended.first_edit.segment.base) (list_any (is_based n) (answers_in (before ++ mine ∷ after)))
       (answers_any (is_based n) (before ++ mine ∷ after) (one_did (λ (x : Dialogue). list_any (is_based n) x.answers) i d.own d.there (subst (λ (m : ℕ). list_any (is_based m) d.own.answers ≡ true) same said)))
 
+  none_renewed : (base n : ℕ) → NoneBetween (of_seats past_of seats) base n → IsKnown evidence (NoneRenewed base n)
+  none_renewed base n none = elim (cases_Bool (list_any (is_renewed_between base n) (answers_in (before ++ mine ∷ after)))) [
+    | inl said ↦
+        let same : answers_in (before ++ mine ∷ after) ≡ all_replies (replies_of answered) = sym (ap answers_in split) ∙ same_replies z (found_in ended) parts answered seats over in
+        let k = remembers z (found_in ended) (is_renewed_between base n) parts answered seats over (subst (λ (xs : List Reply). list_any (is_renewed_between base n) xs ≡ true) same said) in
+        let r = renewed_there k.past base n k.answer k.is k.remembered in
+        let low = none r.0 (0, k.place, (k.past, (map past_of (map participant_of seats), refl, k.there), r.1)) r.3 in absurd (omega (arith, low, r.2))
+    | inr unsaid ↦ ap not unsaid
+  ]
+
+  -- a renewal failed in the log, whose base was below what is published
+  fails_renewal : ended.writes.closed ≡ true → ended.writes.stopped ≡ false → ended.writes.failed ≡ [] → ended.edits.last.segment.base < length history
+  fails_renewal closed by_device none =
+      let below = ended.faults.renewing closed by_device none in let same = ap (λ (s : Segment). s.base) ended.in_place in let all = ap (λ (h : List Entry). length h) ended.history_is in omega (arith, below, same, all)
+
   -- ---- the seat
 
   module _ (p : Participant) (at : get_elem? (map participant_of seats) (length before) ≡ some p) (closed_said : ended.writes.closed ≡ true → list_any has_stop (before ++ mine ∷ after) ≡ true) (halted_said : ended.edits.halted ≡ true → IsKnown evidence TablesFailed) where
@@ -179,7 +202,8 @@ module _ {D : Type 0} {z : SharedState D} {seats : List SeatState} {history : Li
     knows (stopped n) there =
         let k = ended.faults.stopped n (past_is (stopped n) there) in
         both_so (n == length history) (list_any has_stop (before ++ mine ∷ after)) (eq-eqb n (length history) (k.1 ∙ ap (λ (h : List Entry). length h) ended.history_is)) (closed_said k.0)
-    knows (log_failed entries) there = (ended.faults.failed entries (past_is (log_failed entries) there)).1
+    knows (based_at n base) there = (was_based base (ended.installed.based n base (past_is (based_at n base) there)), none_renewed base n (ended.faults.based n base (past_is (based_at n base) there)).1)
+    knows (log_failed entries) there = let f = ended.faults.failed entries (past_is (log_failed entries) there) in (f.1, λ none. fails_renewal f.0 (ended.faults.of_log entries (past_is (log_failed entries) there)) (f.1 ∙ none))
     knows (tables_failed last edit) there = let f = ended.installed.failed last edit (past_is (tables_failed last edit) there) in (f.1, f.2)
     knows (found_edit n base tables due halted) there = (
       was_flushed n (ended.installed.found n base tables due halted (past_is (found_edit n base tables due halted) there)),

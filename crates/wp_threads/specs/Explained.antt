@@ -42,9 +42,9 @@ AreWholeParts [] [] [] = Unit {0}
 AreWholeParts (part ∷ parts) (first ∷ firsts) (a ∷ answered) = (a.whole ≡ true → first ≡ part) × AreWholeParts parts firsts answered
 AreWholeParts parts firsts answered = ⊥
 
--- The store ended, with all its seats handed in, which hold nothing: no transaction and no snapshot. The clients were answered so, each to the first of its commands, which are all
--- where its answers are whole; and the history and the devices that are left explain the replies. With one client they are just
--- what is due. No entry since the opening has a number above the limit.
+-- The store ended, with all its seats handed in, which hold nothing: no transaction and no snapshot. The clients were answered so, each to
+-- the first of its commands, which are all where its answers are whole; and the history and the devices that are left explain the
+-- replies. With one client they are just what is due. No entry since the opening has a number above the limit.
 pub record HaveRun {D : Type 0} (z : SharedState D) (script : List Part) (answered : List Answered) (history : List Entry) (left : DevicesLeft) : Type 0 where
   pub seats : List SeatState
   pub ended : IsEnded z seats history left

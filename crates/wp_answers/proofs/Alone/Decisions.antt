@@ -1,5 +1,5 @@
 -- What a client is answered that is alone and prepares its transaction, commits it, rolls it back, drops it or leaves it.
-use Rattle.std.proofs.Common.{◌≡◌, inl, ℕ, ◌+◌, Bool, List, [], ◌∷◌, ◌++◌, length, refl, sym, subst, ap, ◌∙◌, append-nil, length-append, None, arith}
+use Rattle.std.proofs.Common.{◌≡◌, inl, ℕ, ◌+◌, Bool, List, [], ◌∷◌, ◌++◌, length, refl, sym, subst, ap, ◌∙◌, append-nil, length-append, arith}
 use Rattle.wp_model.specs.declared.change.Change.{Change}
 use Rattle.wp_model.specs.declared.entry.Entry.{Entry}
 use Rattle.wp_model.specs.declared.entry.Entry.TheVariants as entry
@@ -10,9 +10,9 @@ use Rattle.wp_text.specs.declared.script.Command.{Command}
 use Rattle.wp_text.specs.declared.script.Command.TheVariants as command
 use Rattle.wp_text.specs.declared.reply.Reply.{Reply}
 use Rattle.wp_text.specs.declared.reply.Reply.TheVariants as reply
-use Rattle.wp_core.specs.Sound.Views.{guarded_by}
 use Rattle.wp_core.specs.World.{Participant, World}
 use Rattle.wp_records.specs.Writing.{FoundLog}
+use Rattle.wp_shared.specs.Calls.{IsLoose}
 use Rattle.wp_shared.specs.Seats.{SharedState, SeatState, Stands}
 use Rattle.wp_open_txns.specs.declared.error.TxnError.TheVariants.{NumbersFull, LogFault, Stopped}
 use Rattle.wp_open_txns.specs.Calls.{GivesUp, without_transaction}
@@ -63,7 +63,7 @@ module _ {D : Type 0} (z : SharedState D) (first : InstalledEdit) (old new : Sea
   pub prepared_alone : (t : OpenState) (p : PreparedState) (n : ℕ) → Prepares z old t p n new → AnswersAlone z first old new (opened t) (prepared p) command.Prepare (reply.Prepared n) store
   prepared_alone t p n k =
       let history = k.3.0 in let put = k.3.1 in let entries : List Entry = entry.Prepare t.name t.batch ∷ [] in
-      put_answers z first old new only store is stood (IsApartFrom t.name) it it [] past_same refl past_same none_quiet history entries put (opened t) (prepared p) command.Prepare (reply.Prepared n)
+      put_answers z first old new only store is stood IsLoose it it [] past_same refl past_same none_quiet history entries put (opened t) (prepared p) command.Prepare (reply.Prepared n)
       (λ behind legal. asks_prepare t n (last_number history store.history new.knows.participant.seen entries n k.0 put.seen behind)) (ap prepared k.1)
 
   pub committed_now_alone : (t : OpenState) (n : ℕ) → CommitsNow z old t n new → AnswersAlone z first old new (opened t) idle command.Commit (reply.Committed n) store
@@ -80,17 +80,17 @@ module _ {D : Type 0} (z : SharedState D) (first : InstalledEdit) (old new : Sea
     pub open_stopped_alone : (n : ℕ) → RefusesOpen z old t e left (Stopped n) new → AnswersAlone z first old new (opened t) (opened left) c (reply.Stopped n) store
     open_stopped_alone n k =
         back_open (reply.Stopped n) refl k.0
-        (stopped_answers z first old new only store is stood (λ fact. guarded_by fact ≡ None) it it [] past_same refl past_same none_quiet 1 (λ es. es ≡ e ∷ []) (opened t) c r (e ∷ []) (λ closed found seen. asks) n k.2 refl)
+        (stopped_answers z first old new only store is stood IsLoose it it [] past_same refl past_same none_quiet 1 (λ es. es ≡ e ∷ []) (opened t) c r (e ∷ []) (λ closed found seen. asks) n k.2 refl)
 
     pub open_full_alone : (published limit : ℕ) → RefusesOpen z old t e left (NumbersFull published limit) new → AnswersAlone z first old new (opened t) (opened left) c (reply.Full published limit) store
     open_full_alone published limit k =
         back_open (reply.Full published limit) refl k.0
-        (full_answers z first old new only store is stood (λ fact. guarded_by fact ≡ None) it it [] past_same refl past_same none_quiet 1 (λ es. es ≡ e ∷ []) (opened t) c r (e ∷ []) (λ closed found seen. asks) published limit k.2 refl)
+        (full_answers z first old new only store is stood IsLoose it it [] past_same refl past_same none_quiet 1 (λ es. es ≡ e ∷ []) (opened t) c r (e ∷ []) (λ closed found seen. asks) published limit k.2 refl)
 
     pub open_fault_alone : RefusesOpen z old t e left LogFault new → AnswersAlone z first old new (opened t) (opened left) c reply.FaultLog store
     open_fault_alone k =
         back_open reply.FaultLog refl k.0
-        (fault_answers z first old new only store is stood (λ fact. guarded_by fact ≡ None) it it [] past_same refl past_same none_quiet 1 (λ es. es ≡ e ∷ []) (opened t) c r (e ∷ []) (λ closed found seen. asks) (λ es seen same. same) k.2 refl)
+        (fault_answers z first old new only store is stood IsLoose it it [] past_same refl past_same none_quiet 1 (λ es. es ≡ e ∷ []) (opened t) c r (e ∷ []) (λ closed found seen. asks) (λ es seen same. same) k.2 refl)
 
   -- which entry a prepare and a commit ask for
   pub prepare_asks : (t : OpenState) → AsksFor store (opened t) command.Prepare 1 (reply.Prepared (next store.history)) (entry.Prepare t.name t.batch ∷ [])
@@ -139,17 +139,17 @@ module _ {D : Type 0} (z : SharedState D) (first : InstalledEdit) (old new : Sea
     pub commit_stopped_alone : (n : ℕ) → RefusesPrepared z old t 1 AsksCommit left (Stopped n) new → AnswersAlone z first old new (prepared t) (prepared left) command.Commit (reply.Stopped n) store
     commit_stopped_alone n k =
         back_prepared t left command.Commit (reply.Stopped n) k.0
-        (stopped_answers z first old new only store is stood (λ fact. guarded_by fact ≡ None) it it [] past_same refl past_same none_quiet 1 (AsksCommit new.knows.participant.seen t) (prepared t) command.Commit (reply.Committed (next store.history)) (entry.Commit t.number ∷ []) commit_refused n k.2 refl)
+        (stopped_answers z first old new only store is stood IsLoose it it [] past_same refl past_same none_quiet 1 (AsksCommit new.knows.participant.seen t) (prepared t) command.Commit (reply.Committed (next store.history)) (entry.Commit t.number ∷ []) commit_refused n k.2 refl)
 
     pub commit_full_alone : (published limit : ℕ) → RefusesPrepared z old t 1 AsksCommit left (NumbersFull published limit) new → AnswersAlone z first old new (prepared t) (prepared left) command.Commit (reply.Full published limit) store
     commit_full_alone published limit k =
         back_prepared t left command.Commit (reply.Full published limit) k.0
-        (full_answers z first old new only store is stood (λ fact. guarded_by fact ≡ None) it it [] past_same refl past_same none_quiet 1 (AsksCommit new.knows.participant.seen t) (prepared t) command.Commit (reply.Committed (next store.history)) (entry.Commit t.number ∷ []) commit_refused published limit k.2 refl)
+        (full_answers z first old new only store is stood IsLoose it it [] past_same refl past_same none_quiet 1 (AsksCommit new.knows.participant.seen t) (prepared t) command.Commit (reply.Committed (next store.history)) (entry.Commit t.number ∷ []) commit_refused published limit k.2 refl)
 
     pub commit_fault_alone : RefusesPrepared z old t 1 AsksCommit left LogFault new → AnswersAlone z first old new (prepared t) (prepared left) command.Commit reply.FaultLog store
     commit_fault_alone k =
         back_prepared t left command.Commit reply.FaultLog k.0
-        (fault_answers z first old new only store is stood (λ fact. guarded_by fact ≡ None) it it [] past_same refl past_same none_quiet 1 (AsksCommit new.knows.participant.seen t) (prepared t) command.Commit (reply.Committed (next store.history)) (entry.Commit t.number ∷ []) commit_refused (λ es seen same. same) k.2 refl)
+        (fault_answers z first old new only store is stood IsLoose it it [] past_same refl past_same none_quiet 1 (AsksCommit new.knows.participant.seen t) (prepared t) command.Commit (reply.Committed (next store.history)) (entry.Commit t.number ∷ []) commit_refused (λ es seen same. same) k.2 refl)
 
     module _ (has : HasPrepared old t) where
       abbrev undone : List Entry
@@ -161,17 +161,17 @@ module _ {D : Type 0} (z : SharedState D) (first : InstalledEdit) (old new : Sea
       pub rollback_stopped_alone : (n : ℕ) → RefusesPrepared z old t 2 AsksRollback left (Stopped n) new → AnswersAlone z first old new (prepared t) (prepared left) command.Rollback (reply.Stopped n) store
       rollback_stopped_alone n k =
           back_prepared t left command.Rollback (reply.Stopped n) k.0
-          (stopped_answers z first old new only store is stood (λ fact. guarded_by fact ≡ None) it it [] past_same refl past_same none_quiet 2 (AsksRollback new.knows.participant.seen t) (prepared t) command.Rollback (reply.RolledBack (next store.history + 1)) undone rollback_refused n k.2 refl)
+          (stopped_answers z first old new only store is stood IsLoose it it [] past_same refl past_same none_quiet 2 (AsksRollback new.knows.participant.seen t) (prepared t) command.Rollback (reply.RolledBack (next store.history + 1)) undone rollback_refused n k.2 refl)
 
       pub rollback_full_alone : (published limit : ℕ) → RefusesPrepared z old t 2 AsksRollback left (NumbersFull published limit) new → AnswersAlone z first old new (prepared t) (prepared left) command.Rollback (reply.Full published limit) store
       rollback_full_alone published limit k =
           back_prepared t left command.Rollback (reply.Full published limit) k.0
-          (full_answers z first old new only store is stood (λ fact. guarded_by fact ≡ None) it it [] past_same refl past_same none_quiet 2 (AsksRollback new.knows.participant.seen t) (prepared t) command.Rollback (reply.RolledBack (next store.history + 1)) undone rollback_refused published limit k.2 refl)
+          (full_answers z first old new only store is stood IsLoose it it [] past_same refl past_same none_quiet 2 (AsksRollback new.knows.participant.seen t) (prepared t) command.Rollback (reply.RolledBack (next store.history + 1)) undone rollback_refused published limit k.2 refl)
 
       pub rollback_fault_alone : RefusesPrepared z old t 2 AsksRollback left LogFault new → AnswersAlone z first old new (prepared t) (prepared left) command.Rollback reply.FaultLog store
       rollback_fault_alone k =
           back_prepared t left command.Rollback reply.FaultLog k.0
-          (fault_answers z first old new only store is stood (λ fact. guarded_by fact ≡ None) it it [] past_same refl past_same none_quiet 2 (AsksRollback new.knows.participant.seen t) (prepared t) command.Rollback (reply.RolledBack (next store.history + 1)) undone rollback_refused
+          (fault_answers z first old new only store is stood IsLoose it it [] past_same refl past_same none_quiet 2 (AsksRollback new.knows.participant.seen t) (prepared t) command.Rollback (reply.RolledBack (next store.history + 1)) undone rollback_refused
           (λ es seen same. same ∙ ap (λ (h : List Entry). entry.Undo t.number (prior h t.batch) ∷ entry.Close t.number ∷ []) seen) k.2 refl)
 
   -- ---- it is given up

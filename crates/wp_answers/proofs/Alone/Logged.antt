@@ -13,10 +13,10 @@ use Rattle.wp_text.specs.declared.reply.Reply.TheVariants as reply
 use Rattle.wp_core.specs.Lists.{IsIn, one_if}
 use Rattle.wp_core.specs.World.{Participant, World}
 use Rattle.wp_core.specs.Sound.Pasts.{closes_log, is_tables_fault, last_installed}
-use Rattle.wp_core.specs.Views.{Event, Fact, log_failed, log_stopped, tables_failed, stopped}
+use Rattle.wp_core.specs.Views.{Event, Fact, log_failed, log_stopped, tables_failed, stopped, based_at}
 use Rattle.wp_core.proofs.EachStep.{reached_is_sound}
 use Rattle.wp_records.specs.Writing.{FoundLog}
-use Rattle.wp_records.specs.Records.{numbers_behind}
+use Rattle.wp_records.specs.Records.{numbers_behind, IsAboutNone}
 use Rattle.wp_rule.proofs.Knows.{one_was_first}
 use Rattle.wp_shared.specs.Limits.{limit_at}
 use Rattle.wp_parts.specs.Parts.{content}
@@ -138,7 +138,7 @@ module _ {D : Type 0} (z : SharedState D) (first : InstalledEdit) (old new : Sea
         (after_past : after.past ≡ old.knows.participant.past ++ pre) (quiet : AreQuiet pre) where
       put_follows : (history entries : List Entry) → HasPut Stays z old new found after history entries → Follows old new (numbers_behind (length history) entries) pre
       put_follows history entries put =
-          follows Stays z old new _ put.goes_on (numbers_behind (length history) entries) pre (ap (λ (own : List ℕ). own ++ numbers_behind (length history) entries) after_own) after_past
+          follows (λ fact. Stays fact × IsAboutNone history entries fact) z old new _ put.goes_on (numbers_behind (length history) entries) pre (ap (λ (own : List ℕ). own ++ numbers_behind (length history) entries) after_own) after_past
 
       pub put_answers : (history entries : List Entry) → HasPut Stays z old new found after history entries → (was now : Client) (c : Command) (r : Reply)
           → (history ≡ store.history → IsLegal (history ++ entries) → AsksFor store was c (length entries) r entries) → now ≡ client_after store.history was c r → AnswersAlone z first old new was now c r store
@@ -199,14 +199,17 @@ module _ {D : Type 0} (z : SharedState D) (first : InstalledEdit) (old new : Sea
 
         pub full_answers : (published limit : ℕ) → Refuses z old new needed Asks found after (NumbersFull published limit) → was ≡ client_after store.history was c (reply.Full published limit) → AnswersAlone z first old new was was c (reply.Full published limit) store
         full_answers published limit k client =
-            let f = follows_on _ z old new _ k.4 pre after_own after_past in
-            let seen = seen_still z first old new only store is stood pre f in
+            let last : Event = based_at published k.2.world.installed.last.segment.base in
+            let events : List Event = pre ++ last ∷ [] in
+            let all_quiet : AreQuiet events = both_quiet pre (last ∷ []) quiet (one_quiet last refl refl (λ edit. refl) (λ label m e. absurd cc)) in
+            let f = follows_on _ z old new _ k.4 events after_own (ap (λ (es : List Event). es ++ last ∷ []) after_past ∙ append_assoc old.knows.participant.past pre (last ∷ [])) in
+            let seen = seen_still z first old new only store is stood events f in
             let a = asks false k.2 seen in
             let running = store_runs found new.knows.participant.seen pre found_past k.2 in
             let size : published ≡ length store.history = k.0 ∙ ap (λ (h : List Entry). length h) seen in
             let most : limit ≡ store.limit = k.3 ∙ limit_found found new.knows.participant.seen false pre found_past quiet.leave k.2 in
             let full : store.limit < length store.history + needed = (let over = k.1 in omega (arith, size, most, over)) in
-            quiet_answers z first old new only store is stood pre f quiet was was c (reply.Full published limit) (leaves_for (reply.Full published limit) refl refl refl refl a)
+            quiet_answers z first old new only store is stood events f all_quiet was was c (reply.Full published limit) (leaves_for (reply.Full published limit) refl refl refl refl a)
             (inl (sym (a.due_is ∙ (log_is_full store needed r running full ∙ ap (λ (x : ℕ × ℕ). reply.Full x.0 x.1) (λ i. (sym size i, sym most i)))))) client
 
         pub fault_answers : ((es : List Entry) → new.knows.participant.seen ≡ store.history → Asks es → es ≡ entries) → Refuses z old new needed Asks found after LogFault → was ≡ client_after store.history was c reply.FaultLog → AnswersAlone z first old new was was c reply.FaultLog store

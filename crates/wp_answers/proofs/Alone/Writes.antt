@@ -15,9 +15,9 @@ use Rattle.wp_history_laws.proofs.Growth.{after_front}
 use Rattle.wp_text.specs.declared.reply.Reply.TheVariants as reply
 use Rattle.wp_core.specs.Views.{Event, locked, found}
 use Rattle.wp_core.specs.World.{Participant, World}
-use Rattle.wp_core.specs.Sound.Views.{guarded_by}
 use Rattle.wp_records.specs.Writing.{FoundLog}
 use Rattle.wp_rule.specs.Accounts.{account_of}
+use Rattle.wp_shared.specs.Calls.{IsLoose}
 use Rattle.wp_shared.specs.Seats.{SharedState, SeatState, Stands}
 use Rattle.wp_open_txns.specs.declared.error.TxnError.TheVariants.{Busy, NumbersFull, LogFault, Stopped}
 use Rattle.wp_txn.specs.Writes.{wrote_direct, writing_direct, WritesDirect}
@@ -104,12 +104,12 @@ module _ {D : Type 0} (z : SharedState D) (first : InstalledEdit) (old new : Sea
 
   pub stopped_alone : (n : ℕ) → WritesDirect z old c (Err (Stopped n)) new → AnswersAlone z first old new idle idle (asking c) (reply.Stopped n) store
   stopped_alone n w =
-      stopped_answers z first old new only store is stood (λ fact. guarded_by fact ≡ None) (writing_direct (key_of c) it) (wrote_direct (key_of c) it) lock refl refl refl lock_quiet 1 (λ es. es ≡ entries) idle (asking c) (acknowledging c (next store.history)) entries asks_refused n w.0 refl
+      stopped_answers z first old new only store is stood IsLoose (writing_direct (key_of c) it) (wrote_direct (key_of c) it) lock refl refl refl lock_quiet 1 (λ es. es ≡ entries) idle (asking c) (acknowledging c (next store.history)) entries asks_refused n w.0 refl
 
   pub full_alone : (published limit : ℕ) → WritesDirect z old c (Err (NumbersFull published limit)) new → AnswersAlone z first old new idle idle (asking c) (reply.Full published limit) store
   full_alone published limit w =
-      full_answers z first old new only store is stood (λ fact. guarded_by fact ≡ None) (writing_direct (key_of c) it) (wrote_direct (key_of c) it) lock refl refl refl lock_quiet 1 (λ es. es ≡ entries) idle (asking c) (acknowledging c (next store.history)) entries asks_refused published limit w.0 refl
+      full_answers z first old new only store is stood IsLoose (writing_direct (key_of c) it) (wrote_direct (key_of c) it) lock refl refl refl lock_quiet 1 (λ es. es ≡ entries) idle (asking c) (acknowledging c (next store.history)) entries asks_refused published limit w.0 refl
 
   pub fault_alone : WritesDirect z old c (Err LogFault) new → AnswersAlone z first old new idle idle (asking c) reply.FaultLog store
   fault_alone w =
-      fault_answers z first old new only store is stood (λ fact. guarded_by fact ≡ None) (writing_direct (key_of c) it) (wrote_direct (key_of c) it) lock refl refl refl lock_quiet 1 (λ es. es ≡ entries) idle (asking c) (acknowledging c (next store.history)) entries asks_refused (λ es seen same. same) w.0 refl
+      fault_answers z first old new only store is stood IsLoose (writing_direct (key_of c) it) (wrote_direct (key_of c) it) lock refl refl refl lock_quiet 1 (λ es. es ≡ entries) idle (asking c) (acknowledging c (next store.history)) entries asks_refused (λ es seen same. same) w.0 refl
