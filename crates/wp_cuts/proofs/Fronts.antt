@@ -18,6 +18,7 @@ use Rattle.wp_history_laws.proofs.Following.{follow_take}
 use Rattle.wp_history_laws.proofs.Unchanged.{changes_key_old}
 use Rattle.wp_history_laws.proofs.Undecided.{is_undecided_by_list, filter_range}
 use Rattle.wp_cuts.specs.Cut.{Cut, IsCut}
+use Rattle.wp_model.proofs.RowLaws.{same_rows}
 use Rattle.wp_cuts.specs.Agree.{HaveSameValues, AgreeFrom, TellAlike}
 use Rattle.wp_cuts.specs.LegalCut.{cut_front}
 use Rattle.wp_cuts.proofs.Agreeing.{cuts_agree}
@@ -117,4 +118,4 @@ module _ (one other : List Entry) (c : Cut) (naming : AreNaming one) (also : Are
       ∙ ap (λ (l : ℕ). filter (changes_key (take n other) key) (range_with_len (suc m) (l - m))) (long ∙ sym too))
 
   pub tell_alike : TellAlike one other base
-  tell_alike = record { whole = whole; fronts = fronts; undecided = undecided_same; prepared = prepared; own = own; behind = behind; later = later; conflicts = conflicts }
+  tell_alike = record { whole = whole; fronts = fronts; undecided = undecided_same; prepared = prepared; own = own; behind = behind; later = later; rows = λ from to n above within. same_rows one other n (λ key. whole.values key n above within) false from to; conflicts = conflicts }

@@ -5,6 +5,7 @@ use Rattle.wp_model.specs.Changed.{conflict}
 use Rattle.wp_model.specs.History.{entry_at, is_undecided, undecided, named, holder_of, value_at}
 use Rattle.wp_model.specs.Decision.{entry_version, decision_of, is_committed}
 use Rattle.wp_model.specs.Flushed.{later_versions}
+use Rattle.wp_model.specs.Rows.{rows as rows_of}
 use Rattle.wp_cuts.specs.Cut.{cut_at}
 
 -- both have the same values at the base
@@ -29,7 +30,7 @@ pub record AgreeFrom (one other : List Entry) (base : ℕ) : Type 0 where
 
 -- What a reply may be judged by is the same in both, at each number n from the base on: all that lists agree in also when cut short
 -- there, which prepares were undecided then, their entries, then and in the whole list, the entries behind, the versions of
--- those above one number and up to another, and the last of these that changed a key.
+-- those above one number and up to another, the last of these that changed a key, and the rows of a range.
 pub record TellAlike (one other : List Entry) (base : ℕ) : Type 0 where
   pub whole : AgreeFrom one other base
   pub fronts : (n : ℕ) → base ≤ n → n ≤ length one → AgreeFrom (take n one) (take n other) base
@@ -38,4 +39,5 @@ pub record TellAlike (one other : List Entry) (base : ℕ) : Type 0 where
   pub own : (p n : ℕ) → base ≤ n → n ≤ length one → is_undecided (take n one) p ≡ true → entry_at one p ≡ entry_at other p
   pub behind : (n : ℕ) → base ≤ n → n ≤ length one → drop n one ≡ drop n other
   pub later : (m n : ℕ) → base ≤ m → n ≤ length one → later_versions (take n one) m ≡ later_versions (take n other) m
+  pub rows : (from to : List ℕ) (n : ℕ) → base ≤ n → n ≤ length one → rows_of one from to n ≡ rows_of other from to n
   pub conflicts : (key : List ℕ) (m n : ℕ) → base ≤ m → n ≤ length one → conflict (take n one) key m ≡ conflict (take n other) key m

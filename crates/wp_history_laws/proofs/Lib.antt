@@ -13,3 +13,4 @@ pub mod NewestVersion
 pub mod Opened
 pub mod Listed
 pub mod Unchanged
+pub mod RowNumbers

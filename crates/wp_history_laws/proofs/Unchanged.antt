@@ -91,7 +91,7 @@ module _ (history : List Entry) (entry : Entry) (legal : IsLegal history) (after
   abbrev grown : List Entry
   grown = history ++ entry ∷ []
 
-  changes_key_next : (key : List ℕ) → changes_key grown key (length history + 1) ≡ is_changed (changes_of history entry) key
+  pub changes_key_next : (key : List ℕ) → changes_key grown key (length history + 1) ≡ is_changed (changes_of history entry) key
   changes_key_next key =
       ap (λ (o : Option Entry). option_map_or (λ e. is_changed (changes_of grown e) key) o false) (entry_at_next history entry)
       ∙ ap (λ (changes : List Change). is_changed changes key) (changes_stay history (entry ∷ []) entry after.orderly.names_undecided)

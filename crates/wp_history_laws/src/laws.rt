@@ -1,14 +1,17 @@
 //! How legal histories grow, and what the store has under a key, over plain lists.
-ghost use Rattle.std.specs.Prelude.{◌≡◌, ◌⊎◌, ℕ, ◌+◌, ◌<◌, ◌-◌, ◌≤◌, true, None, List, [], ◌∷◌, ◌++◌, length, take};
+ghost use Rattle.std.specs.Prelude.{◌≡◌, ◌⊎◌, ◌↔◌, ℕ, ◌+◌, ◌<◌, ◌-◌, ◌≤◌, Bool, true, false, Option, Some, None, List, [], ◌∷◌, ◌++◌, length, take};
+ghost use Rattle.std.specs.FinMap as finite;
+ghost use Rattle.std.specs.List.{Contains};
 ghost use Rattle.wp_model.specs.declared.change.Change.{Change};
 ghost use Rattle.wp_model.specs.declared.entry.Entry.{Entry};
 ghost use Rattle.wp_model.specs.declared.entry.Entry.TheVariants.{Prepare, Undo, Close};
 ghost use Rattle.wp_model.specs.declared.version.Version.{Version};
 ghost use Rattle.wp_model.specs.Changed.{IsUnchanged};
 ghost use Rattle.wp_model.specs.Covered.{IsCovered};
-ghost use Rattle.wp_model.specs.Decision.{IsNewestCommitted, HasNoneCommitted};
-ghost use Rattle.wp_model.specs.History.{entry_at, is_prepare, undecided, is_undecided, name_at, batch_at, is_changed, value_at};
+ghost use Rattle.wp_model.specs.Decision.{entry_version, IsCommittedAt, IsNewestCommitted, HasNoneCommitted};
+ghost use Rattle.wp_model.specs.History.{entry_at, is_prepare, undecided, is_undecided, name_at, batch_at, is_changed, newest, value_at};
 ghost use Rattle.wp_model.specs.Legal.{IsLegal, IsLegalNext, undone_last, log_end};
+ghost use Rattle.wp_model.specs.Rows.{Pair, stored, is_from, rows_from, rows};
 ghost use Rattle.wp_history_laws.specs.Growth.{undecided_after};
 
 /// A legal history grows by each entry that may follow it.
@@ -80,4 +83,29 @@ pub fn unchanged_keys()
         → is_changed (batch_at history p) key ≡ true → IsUnchanged history key p }
     ensures joined { (history : List Entry) (key : List ℕ) (n p : ℕ) → IsLegal history → is_prepare (entry_at history p) ≡ true
         → IsUnchanged (take (p - 1) history) key n → IsUnchanged history key p → IsUnchanged history key n }
+{}
+
+/// The store that a history leaves, and the rows of a range: each key there that has a value, with it, in the order of keys.
+pub fn rows_are_values()
+    ensures stored { (history : List Entry) (key : List ℕ) → finite.get (stored history) key ≡ newest history key }
+    ensures rows { (history : List Entry) (from to : List ℕ) (n : ℕ) (row : Pair) → Contains (rows history from to n) row
+        ↔ ((is_from false from row.0 ≡ true) × (is_from false row.0 to ≡ true) × (value_at history row.0 n ≡ Some row.1)) }
+    ensures later { (history more : List Entry) (above : Bool) (key to : List ℕ) (n : ℕ) → n ≤ length history
+        → rows_from (history ++ more) above key to n ≡ rows_from history above key to n }
+    ensures behind { (history : List Entry) (above : Bool) (at key to : List ℕ) (n : ℕ) → is_from above at key ≡ true → is_from false key to ≡ true
+        → rows_from history above at to n ≡ rows_from history above at key n ++ rows_from history true key to n }
+    ensures alike { (one other : List Entry) (n : ℕ) → ((key : List ℕ) → value_at one key n ≡ value_at other key n)
+        → (above : Bool) (key to : List ℕ) → rows_from one above key to n ≡ rows_from other above key to n }
+{}
+
+/// The number of a version that is committed at a number is one from 1 to that, and no prepare's that is undecided there. Where no undo
+/// ends what stands up to there, it is below each such prepare that has the version's key.
+pub fn committed_versions_stand_below()
+    ensures within { (history : List Entry) (n p : ℕ) → IsLegal history → n ≤ length history → IsCommittedAt history p n
+        → (1 ≤ p) × (p ≤ n) }
+    ensures decided { (history : List Entry) (n p : ℕ) → IsLegal history → n ≤ length history → IsCommittedAt history p n
+        → is_undecided (take n history) p ≡ false }
+    ensures below { (history : List Entry) (n p q : ℕ) (key : List ℕ) (value : Option (List ℕ)) → IsLegal history → n ≤ length history
+        → undone_last (take n history) ≡ None → IsCommittedAt history p n → entry_version history p key ≡ Some value
+        → is_undecided (take n history) q ≡ true → is_changed (batch_at history q) key ≡ true → p < q }
 {}

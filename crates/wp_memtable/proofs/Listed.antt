@@ -1,5 +1,5 @@
 -- What the keys' versions are as one list.
-use Rattle.std.proofs.Common.{◌≡◌, ℕ, zero, suc, ◌+◌, ◌<◌, ◌≤◌, Bool, true, false, cond, not, ◌&&◌, ◌||◌, ◌==◌, Less, Equal, Greater, List, [], ◌∷◌, ◌++◌, length, get_or, take, nat_eq, nat_lt, map, filter, Option, Some, None, is_some, ◌⊎◌, inl, inr, refl, sym, ap, ◌∙◌, subst, arith, length-append}
+use Rattle.std.proofs.Common.{◌≡◌, ℕ, zero, suc, ◌+◌, ◌<◌, ◌≤◌, Bool, true, false, cond, not, ◌&&◌, ◌||◌, ◌==◌, Less, Equal, Greater, List, [], ◌∷◌, ◌++◌, length, get_or, take, nat_eq, nat_lt, map, filter, Option, Some, None, is_some, unwrap_or, ◌⊎◌, inl, inr, refl, sym, ap, ◌∙◌, subst, arith, length-append}
 use Rattle.std.specs.Option.{option_or, option_map_or, option_and_then}
 use Rattle.std.specs.Ordering.{nat_cmp, is_eq, ordering_then, match_ordering}
 use Rattle.std.specs.declared.cmp.Ordering.{Ordering}
@@ -16,7 +16,7 @@ use Rattle.std.proofs.lemmas.List.{append-nil, map-append, take_more}
 use Rattle.std.proofs.lemmas.List.Elements.{filter-append}
 use Rattle.std.proofs.lemmas.List.Filters.{length-filter_both}
 use Rattle.std.proofs.lemmas.Map.{lookup-none}
-use Rattle.std.proofs.lemmas.Map.Entries.{none_past_head}
+use Rattle.std.proofs.lemmas.Map.Entries.{none_below_head, none_past_head}
 use Rattle.std.proofs.lemmas.Map.Keys.{IsDistinct-from_sorted, sorted_head, sorted_tail}
 use Rattle.std.proofs.lemmas.Map.Lookups.{exact_bytes}
 use Rattle.std.proofs.lemmas.Map.Text.{is_eq-slice_cmp}
@@ -200,20 +200,85 @@ inserted_same es ns k w is found none = ap versions_in is ∙ versions_of-none_m
 pub inserted_ordered : (es ns : Places) (k : List ℕ) (w : RoomyVersions) → ns ≡ insert_entry key_cmp es k w → AreWellOrdered es → IsStrictlySortedBy key_cmp (keys_of ns) → AreNewestFirst w.versions → AreWellOrdered ns
 inserted_ordered es ns k w is ordered keys newest = record { keys = keys; newest_first = subst AllNewestFirst (sym is) (newest-inserted es k w ordered.newest_first newest) }
 
--- what is under each key and number, where one version was put under k and n
-pub version_at-put : (k : List ℕ) (n : ℕ) (v : Option (List ℕ)) (es ns : Places) (r w : RoomyVersions) → AreWellOrdered es → AreWellOrdered ns → lookup (is_at (key_cmp k)) es ≡ Some r → ((m : ℕ) → lookup (nat_eq m) w.versions ≡ cond (n == m) (Some v) (lookup (nat_eq m) r.versions)) → ((q : List ℕ) → lookup (is_at (key_cmp q)) ns ≡ cond (is_at (key_cmp k) q) (Some w) (lookup (is_at (key_cmp q)) es)) → (key : List ℕ) (m : ℕ) → version_at (versions_in ns) key m ≡ cond (bytes_eq k key && (m == n)) (Some v) (version_at (versions_in es) key m)
-version_at-put k n v es ns r w old new found put updated key m =
+-- what is under each key and number, where one version was put under k and n, which had these before
+pub version_at-put : (k : List ℕ) (n : ℕ) (v : Option (List ℕ)) (es ns : Places) (had : Numbered) (w : RoomyVersions) → AreWellOrdered es → AreWellOrdered ns → versions_at (lookup (is_at (key_cmp k)) es) ≡ had → ((m : ℕ) → lookup (nat_eq m) w.versions ≡ cond (n == m) (Some v) (lookup (nat_eq m) had)) → ((q : List ℕ) → lookup (is_at (key_cmp q)) ns ≡ cond (is_at (key_cmp k) q) (Some w) (lookup (is_at (key_cmp q)) es)) → (key : List ℕ) (m : ℕ) → version_at (versions_in ns) key m ≡ cond (bytes_eq k key && (m == n)) (Some v) (version_at (versions_in es) key m)
+version_at-put k n v es ns had w old new found put updated key m =
     version_at-versions_in ns key m new.keys
     ∙ ap (option_and_then (λ r. lookup (nat_eq m) r.versions)) (updated key)
     ∙ by (bytes_eq k key) (sym (is_eq-slice_cmp k key))
     ∙ ap (cond (bytes_eq k key && (m == n)) (Some v)) (sym (version_at-versions_in es key m old.keys))
   where
+    through : (o : Option RoomyVersions) → option_and_then (λ r. lookup (nat_eq m) r.versions) o ≡ lookup (nat_eq m) (versions_at o)
+    through None = refl
+    through (Some r) = refl
+
     by : (b : Bool) → b ≡ is_at (key_cmp k) key → option_and_then (λ r. lookup (nat_eq m) r.versions) (cond (is_at (key_cmp k) key) (Some w) (lookup (is_at (key_cmp key)) es)) ≡ cond (b && (m == n)) (Some v) (found_at es key m)
     by true is =
         let same : k ≡ key = exact_bytes k key ((Equal-is _).0 (sym is)) in
-        let here = ap (λ q. lookup (is_at (key_cmp q)) es) (sym same) ∙ found in
-        rw (← is, here) (put m ∙ ap (λ b. cond b (Some v) (lookup (nat_eq m) r.versions)) (nat_eq_equiv.symm n m))
+        let here = through (lookup (is_at (key_cmp key)) es) ∙ ap (lookup (nat_eq m)) (ap (λ q. versions_at (lookup (is_at (key_cmp q)) es)) (sym same) ∙ found) in
+        rw (← is, here) (put m ∙ ap (λ b. cond b (Some v) (lookup (nat_eq m) had)) (nat_eq_equiv.symm n m))
     by false is = rw (← is) refl
+
+-- ---- a version of one key, put by one search
+
+none_above : (k : List ℕ) (e : List ℕ × RoomyVersions) (es : Places) → IsStrictlySortedBy key_cmp (keys_of (e ∷ es)) → key_cmp k e.0 ≡ Less → versions_at (lookup (is_at (key_cmp k)) es) ≡ []
+none_above k e es sorted less = ap versions_at (lookup-none (is_at (key_cmp k)) es (none_below_head nat_list_cmp_total k e es sorted less).1)
+
+versions_of-put : (es : Places) (k : List ℕ) (w : RoomyVersions) → IsStrictlySortedBy key_cmp (keys_of es) → w.versions ≡ versions_at (lookup (is_at (key_cmp k)) es) → versions_in (insert_entry key_cmp es k w) ≡ versions_in es
+versions_of-put [] k w sorted same = ap (λ (ps : Numbered). under k ps ++ []) same
+versions_of-put (e ∷ es) k w sorted same = by (key_cmp k e.0) refl (versions_of-put es k w (sorted_tail key_cmp e.0 (keys_of es) sorted)) same
+  where
+    by : (o : Ordering) → key_cmp k e.0 ≡ o → (w.versions ≡ versions_at (lookup (is_at (key_cmp k)) es) → versions_in (insert_entry key_cmp es k w) ≡ versions_in es) → w.versions ≡ versions_at (cond (is_eq o) (Some e.1) (lookup (is_at (key_cmp k)) es)) → versions_in (match_ordering o ((k, w) ∷ e ∷ es) ((e.0, w) ∷ es) (e ∷ insert_entry key_cmp es k w)) ≡ under e.0 e.1.versions ++ versions_in es
+    by Less is rest same = ap (λ (ps : Numbered). under k ps ++ (under e.0 e.1.versions ++ versions_in es)) (same ∙ none_above k e es sorted is)
+    by Equal is rest same = ap (λ (ps : Numbered). under e.0 ps ++ versions_in es) same
+    by Greater is rest same = ap (λ vs. under e.0 e.1.versions ++ vs) (rest same)
+
+length-put : (es : Places) (k : List ℕ) (w : RoomyVersions) (n : ℕ) → IsStrictlySortedBy key_cmp (keys_of es) → length w.versions ≡ length (versions_at (lookup (is_at (key_cmp k)) es)) + n → length (versions_in (insert_entry key_cmp es k w)) ≡ length (versions_in es) + n
+length-put [] k w n sorted longer = omega (arith, length-append (under k w.versions) [], length-under k w.versions, longer)
+length-put (e ∷ es) k w n sorted longer = by (key_cmp k e.0) refl (length-put es k w n (sorted_tail key_cmp e.0 (keys_of es) sorted)) longer
+  where
+    by : (o : Ordering) → key_cmp k e.0 ≡ o → (length w.versions ≡ length (versions_at (lookup (is_at (key_cmp k)) es)) + n → length (versions_in (insert_entry key_cmp es k w)) ≡ length (versions_in es) + n) → length w.versions ≡ length (versions_at (cond (is_eq o) (Some e.1) (lookup (is_at (key_cmp k)) es))) + n → length (versions_in (match_ordering o ((k, w) ∷ e ∷ es) ((e.0, w) ∷ es) (e ∷ insert_entry key_cmp es k w))) ≡ length (under e.0 e.1.versions ++ versions_in es) + n
+    by Less is rest longer =
+        let none : length (versions_at (lookup (is_at (key_cmp k)) es)) ≡ 0 = ap length (none_above k e es sorted is) in
+        omega (arith, length-append (under k w.versions) (under e.0 e.1.versions ++ versions_in es), length-under k w.versions, longer, none)
+    by Equal is rest longer = omega (arith, length-append (under e.0 w.versions) (versions_in es), length-append (under e.0 e.1.versions) (versions_in es), length-under e.0 w.versions, length-under e.0 e.1.versions, longer)
+    by Greater is rest longer = omega (arith, length-append (under e.0 e.1.versions) (versions_in (insert_entry key_cmp es k w)), length-append (under e.0 e.1.versions) (versions_in es), rest longer)
+
+-- of places ns that are ms, which are es with w under k
+module _ (es ns ms : Places) (k : List ℕ) (w : RoomyVersions) (here : ns ≡ ms) (is : ms ≡ insert_entry key_cmp es k w) (ordered : AreWellOrdered es) where
+  pub put_same : w.versions ≡ versions_at (lookup (is_at (key_cmp k)) es) → versions_in ns ≡ versions_in es
+  put_same same = ap versions_in (here ∙ is) ∙ versions_of-put es k w ordered.keys same
+
+  pub put_length : (n : ℕ) → length w.versions ≡ length (versions_at (lookup (is_at (key_cmp k)) es)) + n → length (versions_in ns) ≡ length (versions_in es) + n
+  put_length n longer = ap (λ xs. length (versions_in xs)) (here ∙ is) ∙ length-put es k w n ordered.keys longer
+
+  pub put_ordered : IsStrictlySortedBy key_cmp (keys_of ms) → AreNewestFirst w.versions → AreWellOrdered ns
+  put_ordered keys newest = subst AreWellOrdered (sym here) (inserted_ordered es ms k w is ordered keys newest)
+
+  pub put_found : ((q : List ℕ) → lookup (is_at (key_cmp q)) ms ≡ cond (is_at (key_cmp k) q) (Some w) (lookup (is_at (key_cmp q)) es)) → (q : List ℕ) → lookup (is_at (key_cmp q)) ns ≡ cond (is_at (key_cmp k) q) (Some w) (lookup (is_at (key_cmp q)) es)
+  put_found updates q = ap (λ (xs : Places). lookup (is_at (key_cmp q)) xs) here ∙ updates q
+
+or_fresh : (found : Option RoomyVersions) (fresh : RoomyVersions) → fresh.versions ≡ [] → versions_at found ≡ (unwrap_or found fresh).versions
+or_fresh None fresh none = sym none
+or_fresh (Some r) fresh none = refl
+
+-- the versions r that a key has, where a key that has none gets a fresh place
+pub had_before : (es : Places) (k key : List ℕ) (found : Option RoomyVersions) (fresh r : RoomyVersions) → key ≡ k → found ≡ lookup (is_at (key_cmp key)) es → fresh.versions ≡ [] → r ≡ unwrap_or found fresh → versions_at (lookup (is_at (key_cmp k)) es) ≡ r.versions
+had_before es k key found fresh r same is none got =
+    ap (λ q. versions_at (lookup (is_at (key_cmp q)) es)) (sym same) ∙ ap (λ o. versions_at o) (sym is) ∙ or_fresh found fresh none ∙ ap (λ (x : RoomyVersions). x.versions) (sym got)
+
+-- ---- one change alone
+
+pub one_only : (changes : List Change) (c : Change) → length changes ≡ 1 → c ≡ get_or changes 0 c → changes ≡ c ∷ []
+one_only [] c one is = absurd (omega (arith, one))
+one_only (x ∷ []) c one is = ap (λ (y : Change). y ∷ []) (sym is)
+one_only (x ∷ y ∷ ys) c one is = absurd (omega (arith, one))
+
+pub one_change : (b d : Bool) (v : Option (List ℕ)) (old : Option (Option (List ℕ))) → cond (b && d) (Some v) old ≡ cond d (option_or (cond b (Some v) None) old) old
+one_change true true v old = refl
+one_change true false v old = refl
+one_change false true v old = refl
+one_change false false v old = refl
 
 -- ---- numbers of versions
 

@@ -5,6 +5,8 @@ use Rattle.std.specs.Str.{bytes_eq}
 use Rattle.std.specs.List.Sorted.{IsStrictlySortedBy}
 use Rattle.std.specs.Map.{lookup, keys_of}
 use Rattle.std.specs.BTreeMap.{is_at}
+use Rattle.std.specs.declared.ops.Bound.{Bound}
+use Rattle.std.specs.declared.ops.Bound.TheVariants.{Included, Excluded}
 use Rattle.wp_model.specs.declared.change.Change.{Change}
 use Rattle.wp_model.specs.Batch.{key_cmp, change_to}
 use Rattle.wp_model.specs.declared.version.Version.{Version}
@@ -51,6 +53,10 @@ AllNewestFirst (e ∷ es) = AreNewestFirst e.1.versions × AllNewestFirst es
 pub record AreWellOrdered (places : Places) : Type 0 where
   pub keys : IsStrictlySortedBy key_cmp (keys_of places)
   pub newest_first : AllNewestFirst places
+
+-- where the keys begin that are above the key, or, where that is not asked, not below it
+abbrev pub start_at : (above : Bool) → List ℕ → Bound (List ℕ)
+start_at above key = if above then Excluded key else Included key
 
 -- whether a version may come under the key and n without memory
 abbrev pub place_at : Places → List ℕ → ℕ → Bool

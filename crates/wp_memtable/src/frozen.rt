@@ -1,5 +1,6 @@
 ghost use Rattle.std.specs.Prelude.{◌≡◌, ◌==◌, length, IfOk};
 ghost use Rattle.std.specs.Arc.{arc_value};
+ghost use Rattle.wp_model.specs.Rows.{next_key};
 ghost use Rattle.wp_model.specs.Versions.{AreInOrder};
 ghost use Rattle.wp_memtable.specs.Memtable.{above, below, numbered_of};
 
@@ -56,6 +57,14 @@ impl FrozenPart {
         ensures in_order { AreInOrder self.now }
     {
         self.part.versions_between(key, self.bounds)
+    }
+
+    /// The least key of a version that is above `key`, or, where `above` is false, not below it.
+    pub fn next_key(&self, key: &Key, above: bool) -> Result<Option<Key>, AllocError>
+        ensures found { IfOk result (λ found. found ≡ next_key above key.now self.now) }
+        ensures in_order { AreInOrder self.now }
+    {
+        self.part.next_between(key, above, self.bounds)
     }
 
     /// A copy of all versions.

@@ -1,18 +1,21 @@
 ghost use Rattle.std.specs.Prelude.{◌≡◌, ◌++◌, ◌<◌, ◌^◌, [], ◌∷◌, length, IfOk, OnOk, OnErr, MatchResult};
 ghost use Rattle.std.specs.List.{list_any};
 ghost use Rattle.std.specs.Option.{option_copied};
+ghost use Rattle.std.specs.Range.Bound.{bound_map};
+ghost use Rattle.wp_model.specs.Rows.{next_key};
 ghost use Rattle.wp_model.specs.Versions.{AreInOrder};
 ghost use Rattle.wp_memtable.specs.Bounds.{is_between, between};
-ghost use Rattle.wp_memtable.specs.Memtable.{HasChanges, above, below, numbered_of, under, versions_in};
+ghost use Rattle.wp_memtable.specs.Memtable.{HasChanges, above, below, numbered_of, start_at, under, versions_in};
 
 use crate::bounds::Bounds;
 use crate::found::Found;
 use crate::frozen::FrozenPart;
 use crate::key_versions::KeyVersions;
-use crate::places::{copy_values, put_all, reserve_all};
+use crate::places::put_changes;
 use std::alloc::{AllocError, Global};
 use std::collections::BTreeMap;
 use std::marker::Model;
+use std::ops::Bound;
 use std::sync::Arc;
 use wp_model::{Batch, Key, Seq, Value, Version, Versions, copy_value};
 
@@ -92,6 +95,33 @@ fn count_of(places: &BTreeMap<Key, KeyVersions>) -> usize
     count
 }
 
+fn start_at(key: &Key, above: bool) -> Bound<&Key>
+    ensures { bound_map (λ k. k.now) result ≡ start_at above key.now }
+{
+    if above {
+        return Bound::Excluded(key);
+    }
+    Bound::Included(key)
+}
+
+/// The first key that is above `key`, or, where `above` is false, not below it, and that has a version with a number
+/// between the bounds.
+fn first_between<'a>(
+    places: &'a BTreeMap<Key, KeyVersions>,
+    key: &Key,
+    above: bool,
+    bounds: Bounds,
+) -> Option<&'a Key>
+    ensures { option_copied result ≡ next_key above key.now (between bounds (versions_in places.entry.now.entries)) }
+{
+    for (other, versions) in places.range((start_at(key, above), Bound::Unbounded)) {
+        if versions.has_between(bounds) {
+            return Some(other);
+        }
+    }
+    None
+}
+
 impl Memtable {
     pub fn new(alloc: Global) -> Memtable
         ensures { result ≡ [] }
@@ -114,9 +144,7 @@ impl Memtable {
     {
         let changes = batch.changes();
         self.count.checked_add(changes.len()).ok_or(AllocError)?;
-        let values = copy_values(self.alloc, changes)?;
-        reserve_all(self.alloc, &mut self.places, changes)?;
-        self.count += put_all(&mut self.places, n, changes, values);
+        self.count += put_changes(self.alloc, &mut self.places, n, changes)?;
         self.least = self.least.min(n);
         self.greatest = self.greatest.max(n);
         Ok(())
@@ -162,6 +190,31 @@ impl Memtable {
         ensures in_order { AreInOrder self.now }
     {
         Found::new(self.places.get(key), bounds)
+    }
+
+    /// The least key of a version that is above `key`, or, where `above` is false, not below it. It goes there at once, and
+    /// then from key to key.
+    pub fn next_key(&self, key: &Key, above: bool) -> Result<Option<Key>, AllocError>
+        ensures found { IfOk result (λ found. found ≡ next_key above key.now self.now) }
+        ensures in_order { AreInOrder self.now }
+    {
+        self.next_between(key, above, Bounds::none())
+    }
+
+    /// That of a version with a number between the bounds.
+    pub(crate) fn next_between(
+        &self,
+        key: &Key,
+        above: bool,
+        bounds: Bounds,
+    ) -> Result<Option<Key>, AllocError>
+        ensures found { IfOk result (λ found. found ≡ next_key above key.now (between bounds self.now)) }
+        ensures in_order { AreInOrder self.now }
+    {
+        match first_between(&self.places, key, above, bounds) {
+            Some(found) => Ok(Some(found.copy(self.alloc)?)),
+            None => Ok(None),
+        }
     }
 
     /// A copy of all versions.

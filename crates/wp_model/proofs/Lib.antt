@@ -7,3 +7,7 @@ pub mod Found
 pub mod Words
 pub mod Keyed
 pub mod Numbers
+pub mod Ordered
+pub mod Rows
+pub mod RowLaws
+pub mod WordOrder

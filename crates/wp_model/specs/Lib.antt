@@ -14,3 +14,4 @@ pub mod Holder
 pub mod LockState
 pub mod PreparedSets
 pub mod Snapshots
+pub mod Rows

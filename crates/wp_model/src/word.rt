@@ -140,6 +140,20 @@ impl<const MOST: usize> PartialOrd for Word<MOST> {
     }
 }
 
+/// The order of the first bytes that differ, or of the lengths. For a few bytes that is shorter than the order of slices or of iterators.
+fn order(a: &[u8], b: &[u8]) -> Ordering
+    ensures { result ≡ slice_cmp nat_cmp a.now b.now }
+{
+    let mut i = 0;
+    while i < a.len() && i < b.len() {
+        if a[i] != b[i] {
+            return a[i].cmp(&b[i]);
+        }
+        i += 1;
+    }
+    a.len().cmp(&b.len())
+}
+
 /// Words are ordered byte by byte, a word before its extensions.
 impl<const MOST: usize> Ord for Word<MOST> {
     ghost cmp = { slice_cmp nat_cmp };
@@ -151,8 +165,7 @@ impl<const MOST: usize> Ord for Word<MOST> {
     ghost matches_eq = { Prim.search (comparing, rules) };
 
     fn cmp(&self, other: &Word<MOST>) -> Ordering {
-        // One byte after the other: for a few bytes that is shorter than the order of slices.
-        self.bytes().iter().cmp(other.bytes().iter())
+        order(self.bytes(), other.bytes())
     }
 }
 

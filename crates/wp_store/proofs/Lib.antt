@@ -3,3 +3,4 @@ pub mod OneMerge
 pub mod Fronts
 pub mod NewestOfKey
 pub mod Taken
+pub mod NextKey

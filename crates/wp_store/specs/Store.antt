@@ -1,7 +1,10 @@
 -- A store: the versions in memory, in frozen parts and in tables.
-use Rattle.std.specs.Prelude.{ℕ, Bool, ◌==◌, nat_lt, List, ◌∷◌, ◌++◌, length, take, map, filter, Option, Some, None}
+use Rattle.std.specs.Prelude.{ℕ, Bool, ◌==◌, nat_lt, List, ◌∷◌, ◌++◌, length, take, map, filter, fold, Option, Some, None, if◌then◌else◌}
 use Rattle.std.specs.List.{list_all}
+use Rattle.std.specs.Ordering.{is_lt}
 use Rattle.std.specs.Str.{bytes_eq}
+use Rattle.wp_model.specs.Batch.{key_cmp}
+use Rattle.wp_model.specs.Rows.{next_key}
 use Rattle.wp_model.specs.declared.version.Version.{Version}
 use Rattle.wp_memtable.specs.Memtable.{above}
 
@@ -27,6 +30,16 @@ of_key key versions = filter (λ v. bytes_eq v.key key) versions
 -- the newest n versions of the key
 abbrev pub newest_of : ℕ → List ℕ → List Version → List Version
 newest_of n key versions = take n (of_key key versions)
+
+-- the lesser of the keys, of those that there are
+abbrev pub least_key : Option (List ℕ) → Option (List ℕ) → Option (List ℕ)
+least_key None other = other
+least_key (Some key) None = Some key
+least_key (Some key) (Some other) = if is_lt (key_cmp other key) then Some other else Some key
+
+-- the least of that key and of the next keys of all these lists
+abbrev pub least_next : (above : Bool) → List ℕ → Option (List ℕ) → List (List Version) → Option (List ℕ)
+least_next above key least parts = fold (λ so_far part. least_key so_far (next_key above key part)) least parts
 
 -- of each part the versions with numbers above n, where there are any
 abbrev pub parts_above : ℕ → List (List Version) → List (List Version)

@@ -4,7 +4,8 @@
 //! shares and writes to a table, while it is read as before. The table then takes the place of the frozen parts. A compaction
 //! writes one table in place of all. The parts have an order, memory first and the oldest table last: of two versions
 //! with one key and number the earlier part's counts. A look-up goes to each part for the newest versions of one key,
-//! and copies no others.
+//! and copies no others. The next key behind a place is the least of what each part has next, so that keys can be gone
+//! through one by one.
 #![tactic(auto)]
 
 pub use frozen_parts::FrozenParts;
@@ -13,5 +14,6 @@ pub use store::Store;
 
 mod frozen_parts;
 mod newest;
+mod next_key;
 mod sources;
 mod store;

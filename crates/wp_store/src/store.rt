@@ -2,12 +2,14 @@ ghost use Rattle.std.specs.Prelude.{◌≡◌, ◌==◌, [], ◌∷◌, List, le
 ghost use Rattle.std.specs.Arc.{arc_value};
 ghost use Rattle.std.specs.List.{list_all};
 ghost use Rattle.wp_model.specs.declared.version.Version.{Version};
+ghost use Rattle.wp_model.specs.Rows.{next_key};
 ghost use Rattle.wp_memtable.specs.Memtable.{HasChanges, above, below};
 ghost use Rattle.wp_merge.specs.Merge.{AreMerged};
 ghost use Rattle.wp_store.specs.Store.{parts_of, is_flushed, parts_above, newest_of};
 
 use crate::frozen_parts::FrozenParts;
 use crate::newest::newest_in_memory;
+use crate::next_key::{least_in_frozen, least_in_tables};
 use crate::sources::{merged, push_frozen, push_newest_frozen, push_newest_tables};
 use std::alloc::{AllocError, Global};
 use std::collections::VecDeque;
@@ -115,6 +117,17 @@ impl Store {
         let mut found = merged(self.alloc, sources)?.into_vec();
         found.truncate(n);
         Ok(Versions::of(found))
+    }
+
+    /// The least key of a version that is above `key`, or, where `above` is false, not below it. It goes to each part for
+    /// that alone.
+    pub fn next_key(&self, key: &Key, above: bool) -> Result<Option<Key>, AllocError>
+        ensures { IfOk result (λ found. (all : List Version) → AreMerged (parts_of self.now) all → found ≡ next_key above key.now all) }
+    {
+        let in_memory = self.memory.next_key(key, above)?;
+        let least = least_in_frozen(&self.frozen, key, above, in_memory)?;
+        let found = least_in_tables(self.alloc, &self.tables, key, above, least)?;
+        Ok(found)
     }
 
     /// The frozen parts, for a flush to write.

@@ -1,21 +1,27 @@
 -- Versions in order, searched for those of one key.
-use Rattle.std.proofs.Common.{◌≡◌, ℕ, zero, suc, ◌+◌, ◌*◌, ◌<◌, ◌≤◌, Bool, true, false, Less, Equal, Greater, List, [], ◌∷◌, length, drop, filter, Option, Some, None, refl, sym, ap, ◌∙◌, arith, inl, inr, ◌⊎◌}
+use Rattle.std.proofs.Common.{◌≡◌, ℕ, zero, suc, ◌+◌, ◌*◌, ◌<◌, ◌≤◌, Bool, true, false, Less, Equal, Greater, List, [], ◌∷◌, length, drop, filter, not, Option, Some, None, IfSome, refl, sym, ap, ◌∙◌, arith, inl, inr, ◌⊎◌}
 use Rattle.std.specs.declared.cmp.Ordering.{Ordering}
-use Rattle.std.specs.Ordering.{nat_cmp, is_lt, ordering_then, ordering_reverse}
+use Rattle.std.specs.List.{list_all}
+use Rattle.std.specs.Option.{option_map}
+use Rattle.std.specs.Ordering.{nat_cmp, is_lt, is_le, ordering_then, ordering_reverse}
 use Rattle.std.specs.Str.{bytes_eq}
+use Rattle.std.proofs.lemmas.Bool.{and_parts}
 use Rattle.std.proofs.lemmas.Cmp.{nat_list_cmp_total}
 use Rattle.std.proofs.lemmas.Map.Lookups.{exact_bytes}
 use Rattle.std.proofs.lemmas.Slice.Eq.{bytes_eq-Decides}
 use Rattle.wp_fields.proofs.Results.{either}
 use Rattle.wp_model.specs.Batch.{key_cmp}
+use Rattle.wp_model.specs.Word.{is_key}
 use Rattle.wp_model.specs.declared.version.Version.{Version}
 use Rattle.wp_model.specs.Versions.{AreInOrder, version_cmp}
 use Rattle.wp_model.proofs.BatchLemmas.{less_from_test}
 use Rattle.wp_model.proofs.VersionLists.{IsBefore, in_order_parts}
-use Rattle.wp_table.specs.Borrowed.{with_next, begins_below, skip_below, front_with}
+use Rattle.wp_model.specs.Rows.{is_from, next_key}
+use Rattle.wp_table.specs.declared.version.VersionRef.{VersionRef}
+use Rattle.wp_table.specs.Borrowed.{seen, with_next, is_short, begins_short, begins_below, skip_short, front_with}
 use Rattle.std.proofs.lemmas.List.{drop_all, drop-drop}
 use Rattle.wp_table.specs.declared.layout.TheConstants.{BLOCK}
-use Rattle.wp_table.specs.Table.{block_count}
+use Rattle.wp_table.specs.Table.{block_count, has_words, is_stored}
 use Rattle.wp_table.specs.Walk.{StandsFrom}
 use Rattle.wp_table.proofs.BlockLemmas.{count_bounds}
 use Rattle.wp_table.proofs.Order.{in_order_drop}
@@ -30,12 +36,21 @@ not_after Greater p h = absurd cc
 test_of_less : (o : Ordering) → o ≡ Less → is_lt o ≡ true
 test_of_less o e = ap is_lt e
 
--- a key that is not after a lesser one is lesser
-lesser : (v w : Version) (key : List ℕ) → version_cmp v w ≡ Less → key_cmp w.key key ≡ Less → key_cmp v.key key ≡ Less
-lesser v w key h less =
+-- a key that is not after one that comes before what is looked for comes before that too
+less_short : (above : Bool) (a b key : List ℕ) → key_cmp a b ≡ Less → is_short above key b ≡ true → is_short above key a ≡ true
+less_short false a b key before short = ap is_lt (nat_list_cmp_total.trans a b key before (less_from_test _ short))
+less_short true a b key before short = by (key_cmp b key) refl short
+  where
+    by : (o : Ordering) → key_cmp b key ≡ o → is_le o ≡ true → is_le (key_cmp a key) ≡ true
+    by Less e is = ap is_le (nat_list_cmp_total.trans a b key before e)
+    by Equal e is = ap is_le (ap (key_cmp a) (sym (exact_bytes b key e)) ∙ before)
+    by Greater e is = absurd cc
+
+shorter : (above : Bool) (v w : Version) (key : List ℕ) → version_cmp v w ≡ Less → is_short above key w.key ≡ true → is_short above key v.key ≡ true
+shorter above v w key h short =
     elim (not_after (key_cmp v.key w.key) (nat_cmp w.number v.number) h) [
-      | inl before ↦ nat_list_cmp_total.trans v.key w.key key before less
-      | inr same ↦ nat_list_cmp_total.congr v.key w.key key same ∙ less
+      | inl before ↦ less_short above v.key w.key key before short
+      | inr same ↦ ap (is_short above key) (exact_bytes v.key w.key same) ∙ short
     ]
 
 true_or_false : true ≡ false → ⊥
@@ -68,30 +83,30 @@ other_key v key less =
 abbrev has : List ℕ → Version → Bool
 has key v = bytes_eq v.key key
 
--- behind a key that is not lesser comes none
-not_below_next : (v : Version) (vs : List Version) (key : List ℕ) → AreInOrder (v ∷ vs) → is_lt (key_cmp v.key key) ≡ false → begins_below key vs ≡ false
-not_below_next v [] key h not_less = refl
-not_below_next v (w ∷ vs) key h not_less =
-    elim (either (is_lt (key_cmp w.key key))) [
-      | inl less ↦ absurd (true_or_false (sym (test_of_less _ (lesser v w key (in_order_parts v (w ∷ vs) h).0.0 (less_from_test _ less))) ∙ not_less))
+-- behind a key that does not come before what is looked for comes none that does
+not_short_next : (above : Bool) (v : Version) (vs : List Version) (key : List ℕ) → AreInOrder (v ∷ vs) → is_short above key v.key ≡ false → begins_short above key vs ≡ false
+not_short_next above v [] key h not_short = refl
+not_short_next above v (w ∷ vs) key h not_short =
+    elim (either (is_short above key w.key)) [
+      | inl short ↦ absurd (true_or_false (sym (shorter above v w key (in_order_parts v (w ∷ vs) h).0.0 short) ∙ not_short))
       | inr is ↦ is
     ]
 
-not_below_later : (n : ℕ) (vs : List Version) (key : List ℕ) → AreInOrder vs → begins_below key vs ≡ false → begins_below key (drop n vs) ≡ false
-not_below_later zero vs key h not_less = not_less
-not_below_later (suc n) [] key h not_less = refl
-not_below_later (suc n) (v ∷ vs) key h not_less = not_below_later n vs key (in_order_parts v vs h).1 (not_below_next v vs key h not_less)
+not_short_later : (above : Bool) (n : ℕ) (vs : List Version) (key : List ℕ) → AreInOrder vs → begins_short above key vs ≡ false → begins_short above key (drop n vs) ≡ false
+not_short_later above zero vs key h not_short = not_short
+not_short_later above (suc n) [] key h not_short = refl
+not_short_later above (suc n) (v ∷ vs) key h not_short = not_short_later above n vs key (in_order_parts v vs h).1 (not_short_next above v vs key h not_short)
 
--- before a lesser key the key does not stand
-pub below_before : (n : ℕ) (vs : List Version) (key : List ℕ) → AreInOrder vs → begins_below key (drop n vs) ≡ true → filter (has key) (drop n vs) ≡ filter (has key) vs
-below_before zero vs key h below = refl
-below_before (suc n) [] key h below = refl
-below_before (suc n) (v ∷ vs) key h below =
-    let less : is_lt (key_cmp v.key key) ≡ true = elim (either (is_lt (key_cmp v.key key))) [
+-- before one that comes before what is looked for all do
+short_before : (above : Bool) (n : ℕ) (vs : List Version) (key : List ℕ) → AreInOrder vs → begins_short above key (drop n vs) ≡ true → skip_short above key (drop n vs) ≡ skip_short above key vs
+short_before above zero vs key h short = refl
+short_before above (suc n) [] key h short = refl
+short_before above (suc n) (v ∷ vs) key h short =
+    let here : is_short above key v.key ≡ true = elim (either (is_short above key v.key)) [
       | inl is ↦ is
-      | inr not_less ↦ absurd (true_or_false (sym below ∙ not_below_later (suc n) (v ∷ vs) key h not_less))
+      | inr not_short ↦ absurd (true_or_false (sym short ∙ not_short_later above (suc n) (v ∷ vs) key h not_short))
     ] in
-    rw (other_key v key less) (below_before n vs key (in_order_parts v vs h).1 below)
+    rw here (short_before above n vs key (in_order_parts v vs h).1 short)
 
 -- behind a greater key the key does not stand
 none_behind : (v : Version) (vs : List Version) (key : List ℕ) → IsBefore v vs → is_lt (key_cmp v.key key) ≡ false → bytes_eq v.key key ≡ false → filter (has key) vs ≡ []
@@ -108,11 +123,11 @@ front_is [] key h not_less = refl
 front_is (v ∷ vs) key h not_less =
     let parts = in_order_parts v vs h in
     elim (either (bytes_eq v.key key)) [
-      | inl same ↦ rw same (ap (λ (ws : List Version). v ∷ ws) (front_is vs key parts.1 (not_below_next v vs key h not_less)))
+      | inl same ↦ rw same (ap (λ (ws : List Version). v ∷ ws) (front_is vs key parts.1 (not_short_next false v vs key h not_less)))
       | inr other ↦ rw other (sym (none_behind v vs key parts.0 not_less other))
     ]
 
-found_in : (vs : List Version) (key : List ℕ) → AreInOrder vs → front_with key (skip_below key vs) ≡ filter (has key) vs
+found_in : (vs : List Version) (key : List ℕ) → AreInOrder vs → front_with key (skip_short false key vs) ≡ filter (has key) vs
 found_in [] key h = refl
 found_in (v ∷ vs) key h =
     elim (either (is_lt (key_cmp v.key key))) [
@@ -121,46 +136,107 @@ found_in (v ∷ vs) key h =
     ]
 
 -- what is found from a place on, in front of which the key does not stand
-pub found_from : (n : ℕ) (vs : List Version) (key : List ℕ) → AreInOrder vs → filter (has key) (drop n vs) ≡ filter (has key) vs → front_with key (skip_below key (drop n vs)) ≡ filter (has key) vs
+pub found_from : (n : ℕ) (vs : List Version) (key : List ℕ) → AreInOrder vs → filter (has key) (drop n vs) ≡ filter (has key) vs → front_with key (skip_short false key (drop n vs)) ≡ filter (has key) vs
 found_from n vs key h from = found_in (drop n vs) key (in_order_drop n vs h) ∙ from
+
+-- where all in front of a place come before the key, it does not stand there
+pub key_stands : (n : ℕ) (vs : List Version) (key : List ℕ) → AreInOrder vs → skip_short false key (drop n vs) ≡ skip_short false key vs → filter (has key) (drop n vs) ≡ filter (has key) vs
+key_stands n vs key h from = sym (found_in (drop n vs) key (in_order_drop n vs h)) ∙ ap (front_with key) from ∙ found_in vs key h
+
+-- ---- the next key
+
+from_is_not_short : (above : Bool) (key other : List ℕ) → is_from above key other ≡ not (is_short above key other)
+from_is_not_short true key other = ap is_lt (nat_list_cmp_total.antisymm key other) ∙ by (key_cmp other key)
+  where
+    by : (o : Ordering) → is_lt (ordering_reverse o) ≡ not (is_le o)
+    by Less = refl
+    by Equal = refl
+    by Greater = refl
+from_is_not_short false key other = ap is_le (nat_list_cmp_total.antisymm key other) ∙ by (key_cmp other key)
+  where
+    by : (o : Ordering) → is_le (ordering_reverse o) ≡ not (is_lt o)
+    by Less = refl
+    by Equal = refl
+    by Greater = refl
+
+abbrev front_key : List Version → Option (List ℕ)
+front_key [] = None
+front_key (v ∷ vs) = Some v.key
+
+module _ (above : Bool) (key : List ℕ) where
+  next_front : (vs : List Version) → next_key above key vs ≡ front_key (skip_short above key vs)
+  next_front [] = refl
+  next_front (v ∷ vs) = by (next_front vs) (is_short above key v.key) refl
+    where
+      by : next_key above key vs ≡ front_key (skip_short above key vs) → (b : Bool) → is_short above key v.key ≡ b → next_key above key (v ∷ vs) ≡ front_key (skip_short above key (v ∷ vs))
+      by again true short = rw (from_is_not_short above key v.key, short) again
+      by again false not_short = rw (from_is_not_short above key v.key, not_short) refl
+
+  front_next : (o : Option VersionRef) (rest : List Version) → option_map (λ v. (seen v).key) o ≡ front_key (with_next (option_map seen o) rest)
+  front_next None rest = refl
+  front_next (Some v) rest = refl
+
+  -- the first that is not skipped has it
+  pub next_is : (o : Option VersionRef) (rest : List Version) (n : ℕ) (vs : List Version) → with_next (option_map seen o) rest ≡ skip_short above key (drop n vs) → skip_short above key (drop n vs) ≡ skip_short above key vs → option_map (λ v. (seen v).key) o ≡ next_key above key vs
+  next_is o rest n vs found from = front_next o rest ∙ ap front_key (found ∙ from) ∙ sym (next_front vs)
+
+  skipped_in_range : (vs : List Version) → list_all has_words vs ≡ true → list_all has_words (skip_short above key vs) ≡ true
+  skipped_in_range [] all = refl
+  skipped_in_range (v ∷ vs) all = by (skipped_in_range vs (and_parts (has_words v) (list_all has_words vs) all).1) (is_short above key v.key) refl
+    where
+      by : list_all has_words (skip_short above key vs) ≡ true → (b : Bool) → is_short above key v.key ≡ b → list_all has_words (skip_short above key (v ∷ vs)) ≡ true
+      by again true short = rw short again
+      by again false not_short = rw not_short all
+
+  behind_in_range : (n : ℕ) (vs : List Version) → list_all has_words vs ≡ true → list_all has_words (drop n vs) ≡ true
+  behind_in_range zero vs all = all
+  behind_in_range (suc n) [] all = refl
+  behind_in_range (suc n) (v ∷ vs) all = behind_in_range n vs (and_parts (has_words v) (list_all has_words vs) all).1
+
+  pub key_in_range : (o : Option VersionRef) (rest : List Version) (n : ℕ) (vs : List Version) → with_next (option_map seen o) rest ≡ skip_short above key (drop n vs) → list_all has_words vs ≡ true → IfSome o (λ v. is_key (seen v).key ≡ true)
+  key_in_range None rest n vs found all = tt
+  key_in_range (Some r) rest n vs found all =
+      let v : Version = seen r in
+      let here : list_all has_words (v ∷ rest) ≡ true = ap (list_all has_words) found ∙ skipped_in_range (drop n vs) (behind_in_range n vs all) in
+      (and_parts (is_key v.key) (is_stored v.value) (and_parts (has_words v) (list_all has_words rest) here).0).0
 
 -- ---- what is skipped
 
-pub below_front : (key : List ℕ) (next : Option Version) (rest : List Version) → begins_below key (with_next next []) ≡ begins_below key (with_next next rest)
-below_front key None rest = refl
-below_front key (Some v) rest = refl
+pub short_front : (above : Bool) (key : List ℕ) (next : Option Version) (rest : List Version) → begins_short above key (with_next next []) ≡ begins_short above key (with_next next rest)
+short_front above key None rest = refl
+short_front above key (Some v) rest = refl
 
-pub one_skipped : (key : List ℕ) (next : Option Version) (rest : List Version) → begins_below key (with_next next []) ≡ true → length (with_next next rest) ≡ length rest + 1
-one_skipped key None rest less = absurd cc
-one_skipped key (Some v) rest less = omega arith
+pub one_skipped : (above : Bool) (key : List ℕ) (next : Option Version) (rest : List Version) → begins_short above key (with_next next []) ≡ true → length (with_next next rest) ≡ length rest + 1
+one_skipped above key None rest short = absurd cc
+one_skipped above key (Some v) rest short = omega arith
 
-none_skipped : (vs : List Version) (key : List ℕ) → begins_below key vs ≡ false → length vs ≤ length (skip_below key vs)
-none_skipped [] key not_less = omega arith
-none_skipped (v ∷ vs) key not_less = rw not_less (omega arith)
+none_skipped : (above : Bool) (vs : List Version) (key : List ℕ) → begins_short above key vs ≡ false → length vs ≤ length (skip_short above key vs)
+none_skipped above [] key not_short = omega arith
+none_skipped above (v ∷ vs) key not_short = rw not_short (omega arith)
 
-few_skipped : (n : ℕ) (vs : List Version) (key : List ℕ) → begins_below key (drop n vs) ≡ false → length vs ≤ n + length (skip_below key vs)
-few_skipped zero vs key h = omega (arith, none_skipped vs key h)
-few_skipped (suc n) [] key h = omega arith
-few_skipped (suc n) (v ∷ vs) key h =
-    elim (either (is_lt (key_cmp v.key key))) [
-      | inl less ↦ rw less (omega (arith, few_skipped n vs key h))
-      | inr not_less ↦ rw not_less (omega arith)
+few_skipped : (above : Bool) (n : ℕ) (vs : List Version) (key : List ℕ) → begins_short above key (drop n vs) ≡ false → length vs ≤ n + length (skip_short above key vs)
+few_skipped above zero vs key h = omega (arith, none_skipped above vs key h)
+few_skipped above (suc n) [] key h = omega arith
+few_skipped above (suc n) (v ∷ vs) key h =
+    elim (either (is_short above key v.key)) [
+      | inl short ↦ rw short (omega (arith, few_skipped above n vs key h))
+      | inr not_short ↦ rw not_short (omega arith)
     ]
 
--- From a block on, behind which no key is lesser, at most the block is skipped.
-pub block_skipped : (block : ℕ) (vs : List Version) (key : List ℕ) → begins_below key (drop ((block + 1) * BLOCK) vs) ≡ false
-    → length (drop (block * BLOCK) vs) ≤ BLOCK + length (skip_below key (drop (block * BLOCK) vs))
-block_skipped block vs key h =
+-- From a block on, behind which none comes before what is looked for, at most the block is skipped.
+pub block_skipped : (above : Bool) (block : ℕ) (vs : List Version) (key : List ℕ) → begins_short above key (drop ((block + 1) * BLOCK) vs) ≡ false
+    → length (drop (block * BLOCK) vs) ≤ BLOCK + length (skip_short above key (drop (block * BLOCK) vs))
+block_skipped above block vs key h =
     let behind : block * BLOCK + BLOCK ≡ (block + 1) * BLOCK = omega arith in
-    few_skipped BLOCK (drop (block * BLOCK) vs) key (ap (begins_below key) (drop-drop BLOCK (block * BLOCK) vs ∙ ap (λ n. drop n vs) behind) ∙ h)
+    few_skipped above BLOCK (drop (block * BLOCK) vs) key (ap (begins_short above key) (drop-drop BLOCK (block * BLOCK) vs ∙ ap (λ n. drop n vs) behind) ∙ h)
 
--- ---- where the key stands
+-- ---- where what is looked for stands
 
-pub all_stand : (vs : List Version) (key : List ℕ) (blocks : ℕ) → blocks ≡ block_count (length vs) → 1 ≤ blocks → StandsFrom vs key 0 blocks
-all_stand vs key blocks is some =
+pub all_stand : (vs : List Version) (above : Bool) (key : List ℕ) (blocks : ℕ) → blocks ≡ block_count (length vs) → 1 ≤ blocks → StandsFrom vs above key 0 blocks
+all_stand vs above key blocks is some =
     let none : drop (blocks * BLOCK) vs ≡ [] = drop_all (blocks * BLOCK) vs (omega (arith, (count_bounds (length vs)).0, is)) in
-    record { later = omega (arith, some); within = omega (arith, is); from = refl; not_below = ap (begins_below key) none }
+    record { later = omega (arith, some); within = omega (arith, is); from = refl; not_short = ap (begins_short above key) none }
 
-pub later_stands : (vs : List Version) (key : List ℕ) (first behind middle : ℕ) → AreInOrder vs → StandsFrom vs key first behind → begins_below key (drop (middle * BLOCK) vs) ≡ true → middle < behind → StandsFrom vs key middle behind
-later_stands vs key first behind middle h stands below lt =
-    record { later = lt; within = stands.within; from = below_before (middle * BLOCK) vs key h below; not_below = stands.not_below }
+pub later_stands : (vs : List Version) (above : Bool) (key : List ℕ) (first behind middle : ℕ) → AreInOrder vs → StandsFrom vs above key first behind → begins_short above key (drop (middle * BLOCK) vs) ≡ true → middle < behind → StandsFrom vs above key middle behind
+later_stands vs above key first behind middle h stands short lt =
+    record { later = lt; within = stands.within; from = short_before above (middle * BLOCK) vs key h short; not_short = stands.not_short }

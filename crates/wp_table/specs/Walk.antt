@@ -1,7 +1,6 @@
 -- The versions that the bytes of a table have, read again without looking for faults.
-use Rattle.std.specs.Prelude.{◌≡◌, ℕ, zero, suc, ◌-◌, ◌≤◌, ◌<◌, ◌*◌, List, [], ◌∷◌, ◌++◌, length, drop, filter, false, Option, Some, None, Result, Ok, Err}
+use Rattle.std.specs.Prelude.{◌≡◌, ℕ, zero, suc, ◌-◌, ◌≤◌, ◌<◌, ◌*◌, List, [], ◌∷◌, ◌++◌, length, drop, Bool, false, Option, Some, None, Result, Ok, Err}
 use Rattle.std.specs.Int.{w16}
-use Rattle.std.specs.Str.{bytes_eq}
 use Rattle.wp_model.specs.declared.version.Version.{Version}
 use Rattle.wp_fields.specs.Reading.{◌>>=◌, byte_at, number_at, piece_at}
 use Rattle.wp_fields.specs.declared.format.Format.{Format}
@@ -9,7 +8,7 @@ use Rattle.wp_fields.specs.Format.{number_width}
 use Rattle.wp_table.specs.declared.layout.TheConstants.{BLOCK}
 use Rattle.wp_table.specs.declared.error.TableError.{TableError}
 use Rattle.wp_table.specs.declared.error.TableError.TheVariants.{Short}
-use Rattle.wp_table.specs.Borrowed.{begins_below}
+use Rattle.wp_table.specs.Borrowed.{begins_short, skip_short}
 use Rattle.wp_table.specs.Table.{block_count, blocks_of, places_from, table_bytes, IsTableIn}
 
 -- ---- one version
@@ -84,10 +83,10 @@ pub record BuiltTable : Type 0 where
   pub bytes : List ℕ
   pub versions : List Version
 
--- Every version of the key stands in the block `first` or later. The block `behind` comes later, and the first key there,
--- if there is one, is not below the key.
-pub record StandsFrom (versions : List Version) (key : List ℕ) (first behind : ℕ) : Type 0 where
+-- Each version before the block `first` has a key before what is looked for. The block `behind` comes later, and the first key
+-- there, if there is one, does not come before it.
+pub record StandsFrom (versions : List Version) (above : Bool) (key : List ℕ) (first behind : ℕ) : Type 0 where
   pub later : first < behind
   pub within : behind ≤ block_count (length versions)
-  pub from : filter (λ v. bytes_eq v.key key) (drop (first * BLOCK) versions) ≡ filter (λ v. bytes_eq v.key key) versions
-  pub not_below : begins_below key (drop (behind * BLOCK) versions) ≡ false
+  pub from : skip_short above key (drop (first * BLOCK) versions) ≡ skip_short above key versions
+  pub not_short : begins_short above key (drop (behind * BLOCK) versions) ≡ false

@@ -1,6 +1,6 @@
 ghost use Rattle.std.specs.Prelude.{◌≡◌, ◌+◌, ◌<◌, []};
 ghost use Rattle.std.specs.Option.{option_map};
-ghost use Rattle.wp_table.specs.Borrowed.{seen, with_next, begins_below};
+ghost use Rattle.wp_table.specs.Borrowed.{seen, with_next, begins_short};
 
 use crate::version::VersionRef;
 use std::marker::Model;
@@ -36,15 +36,22 @@ impl<L: Ledger> Steps<L> {
         Steps { book, share }
     }
 
-    /// Whether there is a version, and its key is lesser, which is one step.
-    pub(crate) fn is_below(&mut self, version: Option<VersionRef<'_>>, key: &[u8]) -> bool
-        ensures below { result ≡ begins_below key.now (with_next (option_map seen version.entry) []) }
+    /// Whether there is a version, and its key is below this one, or, where what is above it is looked for, not above it. That is
+    /// one step.
+    pub(crate) fn is_short(
+        &mut self,
+        version: Option<VersionRef<'_>>,
+        key: &[u8],
+        above: bool,
+    ) -> bool
+        ensures short { result ≡ begins_short above key.now (with_next (option_map seen version.entry) []) }
         ensures step { self.new ≡ self.old + 1 }
     {
         self.book.add(&mut self.share, 1);
-        match version {
-            Some(version) => version.key.cmp(key).is_lt(),
-            None => false,
-        }
+        let Some(version) = version else {
+            return false;
+        };
+        let order = version.key.cmp(key);
+        if above { order.is_le() } else { order.is_lt() }
     }
 }

@@ -3,11 +3,12 @@ ghost use Rattle.std.specs.Arc.{arc_value};
 ghost use Rattle.std.specs.List.{list_all};
 ghost use Rattle.std.specs.Str.{bytes_eq};
 ghost use Rattle.wp_model.specs.declared.version.Version.{Version};
+ghost use Rattle.wp_model.specs.Rows.{next_key};
 ghost use Rattle.wp_model.specs.Versions.{AreInOrder};
 ghost use Rattle.wp_fields.specs.Reading.{Gives};
 ghost use Rattle.wp_table.specs.declared.error.TableError.{TableError};
 ghost use Rattle.wp_table.specs.declared.layout.TheConstants.{BLOCK};
-ghost use Rattle.wp_table.specs.Borrowed.{begins_below};
+ghost use Rattle.wp_table.specs.Borrowed.{begins_below, begins_short};
 ghost use Rattle.wp_table.specs.Errors.{table_fault};
 ghost use Rattle.wp_table.specs.Faults.{IsTableFault};
 ghost use Rattle.wp_table.specs.Reading.{table_at};
@@ -16,11 +17,12 @@ ghost use Rattle.wp_table.specs.Walk.{stored_versions, IsIndexed, StandsFrom};
 
 use crate::all::All;
 use crate::error::TableError;
-use crate::found::Found;
+use crate::found::{Found, first_from};
 use crate::layout::{BLOCK, HEAD};
 use crate::reading::judge;
 use crate::steps::Steps;
-use std::alloc::Global;
+use crate::version::copy_key;
+use std::alloc::{AllocError, Global};
 use std::marker::Model;
 use std::sync::Arc;
 use std::sync::ledger::Ledger;
@@ -113,36 +115,61 @@ impl Table {
         )
     }
 
-    /// Whether the first key of the block is lesser, which is one step.
-    fn begins_below<L: Ledger>(&self, block: usize, key: &Key, steps: &mut Steps<L>) -> bool
+    /// Whether the first key of the block comes before what is looked for, which is one step.
+    fn begins_short<L: Ledger>(
+        &self,
+        block: usize,
+        key: &Key,
+        above: bool,
+        steps: &mut Steps<L>,
+    ) -> bool
         requires { block < block_count (length self.now) }
-        ensures below { result ≡ begins_below key.now (drop (block * BLOCK) self.now) }
+        ensures short { result ≡ begins_short above key.now (drop (block * BLOCK) self.now) }
         ensures step { steps.new ≡ steps.old + 1 }
         ensures in_order { AreInOrder self.now }
     {
         let first = self.from_block(block).advance();
-        steps.is_below(first, key.bytes())
+        steps.is_short(first, key.bytes(), above)
     }
 
-    /// The half of these blocks that the key's versions stand from, by one step.
+    /// The half of these blocks that what is looked for stands from, by one step.
     fn halve<L: Ledger>(
         &self,
         first: usize,
         behind: usize,
         key: &Key,
+        above: bool,
         steps: &mut Steps<L>,
     ) -> (usize, usize)
-        requires stands { StandsFrom self.now key.now first behind }
+        requires stands { StandsFrom self.now above key.now first behind }
         requires some { first + 1 < behind }
-        ensures stands { StandsFrom self.now key.now result.0 result.1 }
+        ensures stands { StandsFrom self.now above key.now result.0 result.1 }
         ensures half { 2 * (result.1 - result.0 - 1) ≤ behind - first - 1 }
         ensures step { steps.new ≡ steps.old + 1 }
     {
         let middle = first + (behind - first) / 2;
-        if self.begins_below(middle, key, steps) {
+        if self.begins_short(middle, key, above, steps) {
             return (middle, behind);
         }
         (first, middle)
+    }
+
+    /// The block before which each key is below this one, or, where `above` is asked, not above it, by binary search. A
+    /// step is one comparison with the first key of a block.
+    fn block_before<L: Ledger>(&self, key: &Key, above: bool, steps: &mut Steps<L>) -> usize
+        ensures stands { StandsFrom self.now above key.now result (result + 1) }
+        ensures in_order { AreInOrder self.now }
+        ensures cost { 2 ^ (steps.new - steps.old) ≤ 2 * block_count (length self.now) + 1 }
+    {
+        let _ = &self.index;
+        let mut first = 0;
+        let mut behind = self.block_count();
+        while behind - first > 1 {
+            let half = self.halve(first, behind, key, above, steps);
+            first = half.0;
+            behind = half.1;
+        }
+        first
     }
 
     /// The block from which on the versions of the key stand, by binary search. A step is one comparison with the first
@@ -155,14 +182,7 @@ impl Table {
         ensures behind { begins_below key.now (drop ((result + 1) * BLOCK) self.now) ≡ false }
         ensures cost { 2 ^ (steps.new - steps.old) ≤ 2 * block_count (length self.now) + 1 }
     {
-        let mut first = 0;
-        let mut behind = self.block_count();
-        while behind - first > 1 {
-            let half = self.halve(first, behind, key, steps);
-            first = half.0;
-            behind = half.1;
-        }
-        first
+        self.block_before(key, false, steps)
     }
 
     /// The versions of the key, the newest first, borrowed from the table's bytes. The block where they stand is found by
@@ -175,6 +195,26 @@ impl Table {
     {
         let block = self.first_block(key, steps);
         Found::of(self.from_block(block), key.bytes(), steps)
+    }
+
+    /// The least key of a version that is above `key`, or, where `above` is false, not below it. Its block is found by binary
+    /// search, and at most one block is passed over there. A step is one comparison with a key of the table.
+    pub fn next_key<L: Ledger>(
+        &self,
+        alloc: Global,
+        key: &Key,
+        above: bool,
+        steps: &mut Steps<L>,
+    ) -> Result<Option<Key>, AllocError>
+        ensures found { IfOk result (λ found. found ≡ next_key above key.now self.now) }
+        ensures in_range { list_all has_words self.now ≡ true }
+        ensures in_order { AreInOrder self.now }
+        ensures cost { 2 ^ (steps.new - steps.old - (BLOCK + 1)) ≤ 2 * block_count (length self.now) + 1 }
+    {
+        let block = self.block_before(key, above, steps);
+        let mut rest = self.from_block(block);
+        let found = first_from(&mut rest, key.bytes(), above, steps);
+        copy_key(alloc, found)
     }
 
     /// All versions, in order, borrowed from the table's bytes.

@@ -1,19 +1,13 @@
-use Rattle.std.proofs.Common.{◌+◌, ◌-◌, ◌*◌, ◌^◌, ◌≤◌, length, subst, sym, ap, ◌∙◌, arith}
-use Rattle.wp_table.specs.Table.{block_count}
-use Rattle.wp_table.proofs.Halving.{one_more, halved_again, cost_again}
+use Rattle.std.proofs.Common.{◌*◌, arith}
+use Rattle.wp_table.specs.declared.layout.TheConstants.{BLOCK}
+use Rattle.wp_table.proofs.Lookup.{key_stands}
 use Rattle.wp_table.proofs.table.Table.first_block.Goals as goal
 
-pub loop-behind-preserved : goal.loop-behind-preserved
-loop-behind-preserved g c =
-    let before = c.loop-behind.invariant in
-    let n = c.loop-behind.behind - c.loop-behind.first - 1 in
-    let most = block_count (length c.args.self.now) in
-    let power = 2 ^ (c.loop-behind.steps - c.args.steps.now) in
-    let half = c.halve-half.result.1 - c.halve-half.result.0 - 1 in
-    let twice = ap (λ s. 2 ^ (s - c.args.steps.now)) c.halve-half.ensures.step ∙ one_more c.loop-behind.steps c.args.steps.now before.later in
-    record {
-      stands = c.halve-half.ensures.stands;
-      later = omega (arith, c.halve-half.ensures.step, before.later);
-      halved = subst (λ p. p * half ≤ most) (sym twice) (halved_again power n half most before.halved c.halve-half.ensures.half);
-      cost = subst (λ p. p ≤ 2 * most + 1) (sym twice) (cost_again power n most before.halved (omega (arith, c.loop-behind-test.true)));
-    }
+pub returns-clause-within : goal.returns-clause-within
+returns-clause-within g c = omega (arith, c.block_before.ensures.stands.within)
+
+pub returns-clause-from : goal.returns-clause-from
+returns-clause-from g c = key_stands (c.block_before.result * BLOCK) c.args.self.now c.args.key.now c.block_before.ensures.in_order c.block_before.ensures.stands.from
+
+pub returns-clause-behind : goal.returns-clause-behind
+returns-clause-behind g c = c.block_before.ensures.stands.not_short

@@ -1,0 +1,62 @@
+-- The next key that has a version between bounds.
+use Rattle.std.proofs.Common.{◌≡◌, ℕ, Bool, true, false, ◌&&◌, cond, List, [], ◌∷◌, ◌++◌, filter, Option, Some, refl, sym, ap, ◌∙◌}
+use Rattle.std.specs.declared.ops.Bound.TheVariants.{Unbounded}
+use Rattle.std.specs.BTreeMap.Range.{range_contains, entries_between}
+use Rattle.std.specs.List.{find, list_any}
+use Rattle.std.specs.Option.{option_map}
+use Rattle.std.specs.Ordering.{is_lt, is_le}
+use Rattle.std.proofs.lemmas.List.Elements.{filter-append}
+use Rattle.wp_model.specs.Batch.{key_cmp}
+use Rattle.wp_model.specs.Rows.{is_from, next_key}
+use Rattle.wp_model.specs.declared.version.Version.{Version}
+use Rattle.wp_memtable.specs.declared.bounds.Bounds.{Bounds}
+use Rattle.wp_memtable.specs.Bounds.{is_between, between}
+use Rattle.wp_memtable.specs.KeyVersions.{Numbered}
+use Rattle.wp_memtable.specs.Memtable.{Places, start_at, under, versions_in}
+use Rattle.wp_memtable.proofs.Between.{and_true}
+
+abbrev pub has_some : Bounds → Numbered → Bool
+has_some b versions = list_any (λ q. is_between b q.0) versions
+
+-- the first key that has a version between the bounds
+abbrev pub first_with : Bounds → Places → Option (List ℕ)
+first_with b places = option_map (λ e. e.0) (find (λ e. has_some b e.1.versions) places)
+
+module _ (above : Bool) (key : List ℕ) (b : Bounds) where
+  -- the versions of one key, in front of others
+  next_under : (k : List ℕ) (vs : Numbered) (rest : List Version) → next_key above key (between b (under k vs) ++ rest) ≡ cond (is_from above key k && has_some b vs) (Some k) (next_key above key rest)
+  next_under k [] rest = by (is_from above key k)
+    where
+      by : (f : Bool) → next_key above key rest ≡ cond (f && false) (Some k) (next_key above key rest)
+      by true = refl
+      by false = refl
+  next_under k (p ∷ ps) rest = by (next_under k ps rest) (is_between b p.0) (is_from above key k) refl refl
+    where
+      by : next_key above key (between b (under k ps) ++ rest) ≡ cond (is_from above key k && has_some b ps) (Some k) (next_key above key rest) → (a f : Bool) → is_between b p.0 ≡ a → is_from above key k ≡ f → next_key above key (between b (under k (p ∷ ps)) ++ rest) ≡ cond (is_from above key k && has_some b (p ∷ ps)) (Some k) (next_key above key rest)
+      by again true true inside from = rw (inside, from) refl
+      by again true false inside from = rw (inside, from) (again ∙ rw from refl)
+      by again false f outside from = rw outside again
+
+  pub next_in : (es : Places) → next_key above key (between b (versions_in es)) ≡ first_with b (filter (λ e. is_from above key e.0) es)
+  next_in [] = refl
+  next_in (e ∷ es) =
+      ap (next_key above key) (filter-append (λ v. is_between b v.number) (under e.0 e.1.versions) (versions_in es))
+      ∙ next_under e.0 e.1.versions (between b (versions_in es))
+      ∙ by (next_in es) (is_from above key e.0) (has_some b e.1.versions) refl refl
+    where
+      by : next_key above key (between b (versions_in es)) ≡ first_with b (filter (λ x. is_from above key x.0) es) → (f a : Bool) → is_from above key e.0 ≡ f → has_some b e.1.versions ≡ a → cond (is_from above key e.0 && has_some b e.1.versions) (Some e.0) (next_key above key (between b (versions_in es))) ≡ first_with b (filter (λ x. is_from above key x.0) (e ∷ es))
+      by again true true from some = rw (from, some) refl
+      by again true false from none = rw (from, none) again
+      by again false a from is = rw from again
+
+  starts_at : (es : Places) → entries_between key_cmp (start_at above key) Unbounded es ≡ filter (λ e. is_from above key e.0) es
+  starts_at [] = refl
+  starts_at (e ∷ es) = λ i. cond (same above i) (e ∷ starts_at es i) (starts_at es i)
+    where
+      same : (above : Bool) → range_contains key_cmp (start_at above key) Unbounded e.0 ≡ is_from above key e.0
+      same true = sym (and_true (is_lt (key_cmp key e.0)))
+      same false = sym (and_true (is_le (key_cmp key e.0)))
+
+  -- what is looked through from there on
+  pub next_from : (rest es : Places) → rest ≡ entries_between key_cmp (start_at above key) Unbounded es → first_with b rest ≡ next_key above key (between b (versions_in es))
+  next_from rest es is = ap (first_with b) (is ∙ starts_at es) ∙ sym (next_in es)

@@ -1,0 +1,17 @@
+use Rattle.std.proofs.Common.{map, sym, ap, subst, ◌∙◌}
+use Rattle.std.specs.Arc.{arc_value}
+use Rattle.wp_merge.specs.Merge.{AreMerged}
+use Rattle.wp_store.specs.Store.{parts_of, least_next}
+use Rattle.wp_store.proofs.NextKey.{next_of_parts}
+use Rattle.wp_store.proofs.store.Store.next_key.Goals as goal
+
+pub returns : goal.returns
+returns c = λ all is.
+    let above = c.args.above in
+    let key = c.args.key.now in
+    let frozen = c.self.inside.frozen.items in
+    let tables = map arc_value c.self.inside.tables.items in
+    let least = c.in_ok-least.ensures.found ∙ ap (λ k. least_next above key k frozen) c.in_ok-in_memory.ensures.found in
+    let whole = subst (λ s. AreMerged (parts_of s) all) (sym c.self.view_is) is in
+    c.in_ok-found.ensures.found ∙ ap (λ k. least_next above key k tables) least
+    ∙ next_of_parts above key c.self.inside.memory frozen tables all c.in_ok-in_memory.ensures.in_order c.in_ok-least.ensures.in_order c.in_ok-found.ensures.in_order whole
