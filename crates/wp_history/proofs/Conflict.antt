@@ -12,7 +12,7 @@ use Rattle.wp_model.specs.History.{changes_of, is_changed}
 use Rattle.wp_history_laws.proofs.Unchanged.{each_unchanged, unchanged_by_each, none_filtered}
 
 -- the last that passes, where none above it does
-last_passes : (p : ℕ → Bool) (a n k : ℕ) → a ≤ k → k < a + n → p k ≡ true → ((j : ℕ) → k < j → j < a + n → p j ≡ false) → (o : Option ℕ) → last_or o (filter p (range_with_len a n)) ≡ Some k
+pub last_passes : (p : ℕ → Bool) (a n k : ℕ) → a ≤ k → k < a + n → p k ≡ true → ((j : ℕ) → k < j → j < a + n → p j ≡ false) → (o : Option ℕ) → last_or o (filter p (range_with_len a n)) ≡ Some k
 last_passes p a zero k low high is above o = absurd (omega arith)
 last_passes p a (suc n) k low high is above o = by (p a) refl (λ e past. last_passes p (a + 1) n k past (omega arith) is (λ j more within. above j more (omega arith)) e)
   where

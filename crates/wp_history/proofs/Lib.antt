@@ -6,6 +6,8 @@ pub mod Holding
 pub mod Taking
 pub mod Judged
 pub mod Kept
+pub mod LastChanges
 pub mod Noted
 pub mod Prior
 pub mod Sent
+pub mod TakenOut

@@ -1,3 +1,5 @@
 pub mod History
 pub mod Holders
+pub mod LastChanges
+pub mod Numbers
 pub mod Outline

@@ -1,4 +1,4 @@
-ghost use Rattle.std.specs.Prelude.{◌≡◌, ◌↔◌, true, ◌+◌, ◌-◌, ◌<◌, ◌≤◌, [], ◌∷◌, ◌++◌, length, take, drop, IfOk, IfErr, OnOk};
+ghost use Rattle.std.specs.Prelude.{◌≡◌, ◌↔◌, true, ◌+◌, ◌-◌, ◌<◌, ◌≤◌, [], ◌∷◌, ◌++◌, length, take, drop, IfOk, IfErr, IfSome, OnOk};
 ghost use Rattle.std.specs.List.{AllByRecursion};
 ghost use Rattle.std.specs.Option.{option_copied, option_map};
 ghost use Rattle.wp_model.specs.Changed.{conflict};
@@ -11,6 +11,7 @@ ghost use Rattle.wp_cuts.specs.LegalCut.{AreBelow};
 ghost use Rattle.wp_history.specs.History.{HasBaseValues, IsStore, entry_behind};
 ghost use Rattle.wp_history.specs.Outline.{cut_in, full_with, IsFirstWrong, IsIllegalFrom};
 
+use crate::last_changes::{LastChanges, begun, behind};
 use crate::outline::Outline;
 use std::alloc::{AllocError, Global};
 use std::collections::BTreeMap;
@@ -22,16 +23,20 @@ use wp_model::{Batch, Carried, Change, Entry, Key, Name, Seq, SetError, Value, V
 pub struct History {
     outline: Outline,
     store: BTreeMap<Key, Value>,
+    /// What clauses do not see, from the first time on that it is asked for a change.
+    last_changes: Option<LastChanges>,
 }
 
 impl Model for History {
+    ghost use Rattle.std.specs.Prelude.{IfSome};
     ghost use Rattle.wp_history.specs.History.{RoomyHistory, IsKept};
+    ghost use Rattle.wp_history.specs.LastChanges.{AreLastChanges};
 
     ghost Value = { RoomyHistory };
 
     ghost view = { λ h. h.outline };
 
-    ghost invariant = { λ h. IsKept h.outline h.store };
+    ghost invariant = { λ h. IsKept h.outline h.store × IfSome h.last_changes (AreLastChanges h.outline) };
 }
 
 impl History {
@@ -43,7 +48,11 @@ impl History {
     {
         let outline = Outline::new(alloc);
         let store = BTreeMap::new(alloc);
-        History { outline, store }
+        History {
+            outline,
+            store,
+            last_changes: None,
+        }
     }
 
     /// A history without entries, with just the memory for so many.
@@ -53,7 +62,11 @@ impl History {
     {
         let outline = Outline::with_capacity(alloc, n)?;
         let store = BTreeMap::new(alloc);
-        Ok(History { outline, store })
+        Ok(History {
+            outline,
+            store,
+            last_changes: None,
+        })
     }
 
     /// The history of an outline, once the store is known: what it had at the base by the versions of its tables. An error is the
@@ -73,7 +86,11 @@ impl History {
         let outline = outline.with_versions(versions);
         match outline.first_wrong(&store) {
             Some(number) => Err(number),
-            None => Ok(History { outline, store }),
+            None => Ok(History {
+                outline,
+                store,
+                last_changes: None,
+            }),
         }
     }
 
@@ -209,12 +226,21 @@ impl History {
         self.outline.value_at(&self.store, key, n)
     }
 
-    /// The greatest number above n of an entry that changes the key, if there is one.
-    pub fn changed_after(&self, key: &Key, n: Seq) -> Option<Seq>
-        requires { self.now.base ≤ n }
-        ensures { result ≡ conflict self.now.entries key.now n }
+    /// The greatest number above n of an entry that changes the key, if there is one. From the first time on that it is asked, it
+    /// knows the last changes of what comes then, so that entries are gone through only down from there.
+    pub fn changed_after(&mut self, alloc: Global, key: &Key, n: Seq) -> Option<Seq>
+        requires { self.old.base ≤ n }
+        ensures same { self.new ≡ self.old }
+        ensures last { result ≡ conflict self.old.entries key.now n }
     {
-        self.outline.changed_after(key, n)
+        let changes = begun(alloc, self.last_changes.take(), self.outline.published());
+        let number = match changes.of(key) {
+            Some(number) if number > n => Some(number),
+            Some(_) => None,
+            None => self.outline.changed_after(key, n, changes.from()),
+        };
+        self.last_changes = Some(changes);
+        number
     }
 
     /// The change that leaves under a key what the store has there.
@@ -264,7 +290,14 @@ impl History {
         ensures entries { self.new.entries ≡ self.old.entries ++ entry ∷ [] }
         ensures room { self.new.room ≡ self.old.room - 1 }
     {
+        let number = self.outline.published() + 1;
+        let changes = behind(
+            self.last_changes.take(),
+            self.outline.batch_of(&entry),
+            number,
+        );
         self.outline.push(entry);
+        self.last_changes = changes;
     }
 
     /// Takes all entries away but the first `n`, from the base on. It takes no memory, and leaves none for pushes.
@@ -274,6 +307,7 @@ impl History {
         ensures entries { self.new.entries ≡ take n self.old.entries }
     {
         self.outline.truncate(n);
+        self.last_changes = None;
     }
 }
 
@@ -283,6 +317,7 @@ impl Drop for History {
         let Self {
             outline: _outline,
             store: _store,
+            last_changes: _last_changes,
         } = self;
     }
 }

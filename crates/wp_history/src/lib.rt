@@ -13,8 +13,10 @@
 
 mod history;
 mod holders;
+mod last_changes;
 pub mod laws;
 mod legality;
+mod numbers;
 mod outline;
 mod prepares;
 mod values;

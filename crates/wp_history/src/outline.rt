@@ -1,17 +1,18 @@
-ghost use Rattle.std.specs.Prelude.{◌≡◌, ◌==◌, ℕ, List, None, true, ◌+◌, ◌-◌, ◌<◌, ◌≤◌, [], ◌∷◌, ◌++◌, length, map, take, drop, IfOk, OnOk, vec_len};
-ghost use Rattle.std.specs.Vec.{vec_capacity};
-ghost use Rattle.std.specs.List.{AllByRecursion, find, list_any};
+ghost use Rattle.std.specs.Prelude.{◌≡◌, ◌==◌, ℕ, List, None, true, ◌+◌, ◌-◌, ◌<◌, ◌≤◌, [], ◌∷◌, ◌++◌, length, map, take, drop, IfOk, OnOk};
+ghost use Rattle.std.specs.List.{AllByRecursion, find};
 ghost use Rattle.std.specs.Option.{option_copied, option_map};
 ghost use Rattle.wp_model.specs.Batch.{are_ascending};
 ghost use Rattle.wp_model.specs.History.{entry_at, undecided};
 ghost use Rattle.wp_model.specs.Legal.{IsOrderlyNext, log_end};
-ghost use Rattle.wp_history_laws.specs.Growth.{AreAscending, without_decided, undecided_after};
+ghost use Rattle.wp_history_laws.specs.Growth.{AreAscending, undecided_after};
 ghost use Rattle.wp_history_laws.specs.Prepares.{prepare_of};
 ghost use Rattle.wp_cuts.specs.Cut.{carried_of, is_start};
 ghost use Rattle.wp_cuts.specs.LegalCut.{AreNumbered, IsOrderlyCut, prepares_of};
 ghost use Rattle.wp_history.specs.History.{cut_of, entry_behind};
+ghost use Rattle.wp_history.specs.Numbers.{places};
 ghost use Rattle.wp_history.specs.Outline.{AreOrderly, IsNoted, collision_of, cut_in, full_with};
 
+use crate::numbers::Numbers;
 use std::alloc::{AllocError, Global};
 use std::marker::Model;
 use std::snapshot::Snapshot;
@@ -24,7 +25,7 @@ pub struct Outline {
     carried: Vec<Carried>,
     /// The entries behind the base.
     later: Vec<Entry>,
-    undecided: Vec<Seq>,
+    undecided: Numbers,
     room: usize,
     /// The versions of the tables that the store was opened with, or none as long as these are not known.
     versions: Snapshot<Versions>,
@@ -35,68 +36,41 @@ impl Model for Outline {
     ghost use Rattle.std.specs.Vec.{vec_capacity};
     ghost use Rattle.wp_cuts.specs.Cut.{full_of};
     ghost use Rattle.wp_history.specs.History.{RoomyHistory, IsOutline, cut_of};
+    ghost use Rattle.wp_history.specs.Numbers.{places};
 
     ghost Value = { RoomyHistory };
 
     ghost view = { λ o. record { base = o.base; entries = full_of (cut_of o.base o.carried.items o.later.items) o.versions.value; room = o.room } };
 
-    ghost invariant = { λ o. IsOutline (cut_of o.base o.carried.items o.later.items) o.versions.value o.undecided.items (vec_capacity o.undecided)
-        × (vec_len o.later + o.room ≤ vec_capacity o.later) × (vec_len o.undecided + o.room ≤ vec_capacity o.undecided) };
-}
-
-/// Takes the number out, which is found by halves.
-fn take_out(numbers: &mut Vec<Seq>, p: Seq)
-    requires { AreAscending numbers.old.items }
-    ensures numbers { numbers.new.items ≡ without_decided numbers.old.items p }
-    ensures len { vec_len numbers.new ≤ vec_len numbers.old }
-    ensures capacity { vec_capacity numbers.new ≡ vec_capacity numbers.old }
-{
-    if let Ok(place) = numbers.binary_search(&p) {
-        numbers.remove(place);
-    }
+    ghost invariant = { λ o. IsOutline (cut_of o.base o.carried.items o.later.items) o.versions.value o.undecided.items (places o.undecided)
+        × (vec_len o.later + o.room ≤ vec_capacity o.later) × (o.room ≤ o.undecided.room) };
 }
 
 /// Notes what an entry with that number leaves undecided.
-fn note_undecided(undecided: &mut Vec<Seq>, number: Seq, entry: &Entry)
-    requires room { vec_len undecided.old + 1 ≤ vec_capacity undecided.old }
+fn note_undecided(undecided: &mut Numbers, number: Seq, entry: &Entry)
+    requires room { 1 ≤ undecided.old.room }
     requires ascending { AreAscending undecided.old.items }
     ensures numbers { undecided.new.items ≡ undecided_after undecided.old.items number entry.now }
-    ensures len { vec_len undecided.new ≤ vec_len undecided.old + 1 }
-    ensures capacity { vec_capacity undecided.old ≤ vec_capacity undecided.new }
+    ensures room { undecided.old.room ≤ undecided.new.room + 1 }
+    ensures places { places undecided.old ≤ places undecided.new }
 {
     match entry {
-        Entry::Prepare(_, _) => undecided.push(number).unwrap(),
-        Entry::Commit(p) | Entry::Close(p) => take_out(undecided, *p),
+        Entry::Prepare(_, _) => undecided.push(number),
+        Entry::Commit(p) | Entry::Close(p) => undecided.take_out(*p),
         Entry::Write(_) | Entry::Undo(_, _) => {}
     }
 }
 
-/// Puts a number back that was taken out, at its place, which is found by halves.
-fn put_back(numbers: &mut Vec<Seq>, p: Seq)
-    requires ascending { AreAscending numbers.old.items }
-    requires room { vec_len numbers.old < vec_capacity numbers.old }
-    ensures numbers { (before : List ℕ) → numbers.old.items ≡ without_decided before p → AreAscending before
-        → list_any (λ q. q == p) before ≡ true → numbers.new.items ≡ before }
-    ensures len { vec_len numbers.new ≤ vec_len numbers.old + 1 }
-    ensures capacity { vec_capacity numbers.old ≤ vec_capacity numbers.new }
-{
-    if let Err(place) = numbers.binary_search(&p) {
-        numbers.insert(place, p).unwrap();
-    }
-}
-
 /// Takes the numbers back to those before the entry that was noted last.
-fn take_back(undecided: &mut Vec<Seq>, entry: &Entry)
-    requires room { (before : List ℕ) × IsNoted undecided.old.items entry.now before × (length before ≤ vec_capacity undecided.old) }
+fn take_back(undecided: &mut Numbers, entry: &Entry)
+    requires room { (before : List ℕ) × IsNoted undecided.old.items entry.now before × (length before ≤ places undecided.old) }
     ensures numbers { (before : List ℕ) → IsNoted undecided.old.items entry.now before → undecided.new.items ≡ before }
-    ensures capacity { vec_capacity undecided.old ≤ vec_capacity undecided.new }
+    ensures places { places undecided.old ≤ places undecided.new }
 {
     match entry {
-        Entry::Prepare(_, _) => {
-            undecided.pop();
-        }
-        Entry::Commit(p) => put_back(undecided, *p),
-        Entry::Close(p) => put_back(undecided, *p),
+        Entry::Prepare(_, _) => undecided.pop(),
+        Entry::Commit(p) => undecided.put_back(*p),
+        Entry::Close(p) => undecided.put_back(*p),
         Entry::Write(_) | Entry::Undo(_, _) => {}
     }
 }
@@ -140,7 +114,7 @@ impl Outline {
         ensures room { result.room ≡ 0 }
     {
         let carried = Vec::new(alloc);
-        let undecided = Vec::new(alloc);
+        let undecided = Numbers::of(Vec::new(alloc));
         let versions = no_versions(alloc);
         Outline {
             base: 0,
@@ -182,7 +156,8 @@ impl Outline {
         ensures cut { IfOk result (λ outline. cut_in outline ≡ cut_of base carried.items []) }
         ensures carried { IfOk result (λ outline. carried_of outline.entries ≡ carried.items) }
     {
-        let undecided = numbers_of(alloc, &carried)?;
+        let numbers = numbers_of(alloc, &carried)?;
+        let undecided = Numbers::of(numbers);
         let later = Vec::new(alloc);
         let versions = no_versions(alloc);
         Ok(Outline {
@@ -243,7 +218,7 @@ impl Outline {
     pub fn undecided(&self) -> &[Seq]
         ensures { result.now ≡ undecided self.now.entries }
     {
-        &self.undecided
+        self.undecided.list()
     }
 
     /// The entry with that number, if it is behind the base and there is one.

@@ -3,14 +3,18 @@ use Rattle.std.proofs.Common.{◌≡◌, ℕ, suc, ◌<◌, Bool, true, false, �
 use Rattle.std.specs.Prelude.{nat_lt, option_map, slice_get}
 use Rattle.std.specs.BTreeMap.{get}
 use Rattle.std.specs.List.{find, list_all}
+use Rattle.std.proofs.lemmas.Bool.{false≢true}
 use Rattle.wp_model.specs.declared.carried.Carried.{Carried}
 use Rattle.wp_model.specs.declared.version.Version.{Version}
 use Rattle.wp_model.specs.Batch.{key_cmp}
 use Rattle.wp_model.specs.History.{is_changed}
+use Rattle.wp_history.specs.History.{RoomyHistory}
 use Rattle.wp_history.specs.Holders.{Holds, key_holder}
+use Rattle.wp_history.specs.Outline.{cut_in}
 use Rattle.wp_history.specs.declared.holders.Holders.{Holders}
 use Rattle.wp_history.proofs.Holding.{never_both}
-use Rattle.wp_open.specs.Standing.{is_under}
+use Rattle.wp_cover.specs.Sources.{is_fixed}
+use Rattle.wp_open.specs.Standing.{fits, is_under}
 
 module _ (v : Version) where
   -- no two of them have its key
@@ -54,3 +58,14 @@ module _ (v : Version) where
 
     pub under_none : None ≡ get key_cmp holders.keys v.key → true ≡ list_all (is_under v) xs
     under_none found = is_below None found
+
+-- ---- where no version has a fixed number
+
+pub free_fit : (h : RoomyHistory) (vs : List Version) → true ≡ list_all (λ v. not (is_fixed h v.number)) vs → true ≡ list_all (fits h) vs
+free_fit h [] free = refl
+free_fit h (v ∷ vs) free = by (is_fixed h v.number) (free_fit h vs) free
+  where
+    by : (b : Bool) → (true ≡ list_all (λ v. not (is_fixed h v.number)) vs → true ≡ list_all (fits h) vs) → true ≡ (not b && list_all (λ v. not (is_fixed h v.number)) vs)
+        → true ≡ ((not b || list_all (is_under v) (cut_in h).carried) && list_all (fits h) vs)
+    by true rest free = absurd (false≢true (sym free))
+    by false rest free = rest free

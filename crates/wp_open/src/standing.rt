@@ -1,5 +1,5 @@
 //! The history that stands for what a log spells and for the versions of tables.
-ghost use Rattle.std.specs.Prelude.{◌≡◌, ◌⊎◌, List, map, IfOk, IfErr, OnOk};
+ghost use Rattle.std.specs.Prelude.{◌≡◌, ◌⊎◌, List, not, map, IfOk, IfErr, OnOk};
 ghost use Rattle.std.specs.Arc.{arc_value};
 ghost use Rattle.std.specs.List.{list_all};
 ghost use Rattle.wp_model.specs.declared.carried.Carried.{Carried};
@@ -78,16 +78,37 @@ fn fits(outline: &Outline, holders: &Holders, version: &Version) -> bool
     !is_fixed(outline, version.number) || is_under(holders, version)
 }
 
-/// Whether each version with a fixed number is below each carried prepare that has its key.
-fn are_below(outline: &Outline, holders: &Holders, versions: &Versions) -> bool
-    requires { Holds (cut_in outline.now).carried holders.now }
-    ensures value { result ≡ list_all (fits outline.now) versions.now }
-    ensures in_order { AreInOrder versions.now }
+/// Whether none of the versions has a fixed number.
+fn are_free(outline: &Outline, versions: &[Version]) -> bool
+    ensures { result ≡ list_all (λ v. not (is_fixed outline.now v.number)) versions.now }
 {
     versions
-        .as_slice()
+        .iter()
+        .all(|version| !is_fixed(outline, version.number))
+}
+
+/// Whether each of the versions fits.
+fn all_fit(outline: &Outline, holders: &Holders, versions: &[Version]) -> bool
+    requires { Holds (cut_in outline.now).carried holders.now }
+    ensures { result ≡ list_all (fits outline.now) versions.now }
+{
+    versions
         .iter()
         .all(|version| fits(outline, holders, version))
+}
+
+/// Whether each version with a fixed number is below each carried prepare that has its key. Where none has such a number, nobody is asked
+/// who has the keys.
+fn are_below(alloc: Global, outline: &Outline, versions: &Versions) -> Result<bool, AllocError>
+    ensures value { IfOk result (λ below. below ≡ list_all (fits outline.now) versions.now) }
+    ensures in_order { AreInOrder versions.now }
+{
+    let versions = versions.as_slice();
+    if are_free(outline, versions) {
+        return Ok(true);
+    }
+    let holders = outline.carried_holders(alloc)?;
+    Ok(all_fit(outline, &holders, versions))
 }
 
 /// Leaves under the version's key what it has, or nothing where it is a deletion.
@@ -155,8 +176,7 @@ pub(crate) fn history_of(
 {
     let versions = versions_below(alloc, &outline, tables)?;
     let shown = Snapshot::of(&versions);
-    let holders = outline.carried_holders(alloc)?;
-    let below = are_below(&outline, &holders, &versions);
+    let below = are_below(alloc, &outline, &versions)?;
     let store = base_store(alloc, &outline, versions)?;
     if !below {
         let outline = outline.with_versions(shown);

@@ -11,9 +11,11 @@ first_wrong-requires c =
 
 pub invariant_of-result : goal.invariant_of-result
 invariant_of-result c =
-    let made = c.with_versions-outline.ensures in
-    is_kept _ _ c.args.versions.value _ made.whole made.cut c.requires.order c.requires.below c.in-None.ensures.none
-    (has_base_values _ _ c.args.versions.value _ made.whole made.cut c.requires.order c.requires.below c.requires.store)
+    let made = c.with_versions-outline.ensures in (
+      is_kept _ _ c.args.versions.value _ made.whole made.cut c.requires.order c.requires.below c.in-None.ensures.none
+          (has_base_values _ _ c.args.versions.value _ made.whole made.cut c.requires.order c.requires.below c.requires.store),
+      tt,
+    )
 
 pub returns-in-Some-clause-illegal : goal.returns-in-Some-clause-illegal
 returns-in-Some-clause-illegal c =

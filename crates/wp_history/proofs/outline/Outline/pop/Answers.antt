@@ -1,4 +1,4 @@
-use Rattle.std.proofs.Common.{◌≡◌, ◌<◌, true, false, length, vec_len, refl, ap, arith}
+use Rattle.std.proofs.Common.{◌≡◌, ◌<◌, true, false, vec_len, refl, ap, arith}
 use Rattle.wp_cuts.proofs.FullList.{full_long}
 use Rattle.wp_history.specs.History.{RoomyHistory, cut_of}
 use Rattle.wp_history.proofs.Kept.{kept_back, kept_roomier, noted, fits_before, shorter_is}
@@ -30,11 +30,10 @@ invariant_of-self c =
     let inside = c.self.inside in
     let split = rw c.in-Some.is at c.pop.ensures.items in
     let its = noted inside.base inside.carried.items c.pop.new.self.items c.in-Some.last inside.versions.value inside.later.items split inside.undecided.items _ c.self.invariant.0 in
-    let fits = fits_before inside.base inside.carried.items c.pop.new.self.items c.in-Some.last inside.versions.value inside.later.items split inside.undecided.items _ c.self.invariant.0 in
     let left = c.take_back.ensures.numbers _ its in (
-      kept_roomier _ _ _ _ _ _ (kept_back inside.base inside.carried.items c.pop.new.self.items c.in-Some.last inside.versions.value inside.later.items split inside.undecided.items _ c.self.invariant.0 _ left) refl c.take_back.ensures.capacity,
+      kept_roomier _ _ _ _ _ _ (kept_back inside.base inside.carried.items c.pop.new.self.items c.in-Some.last inside.versions.value inside.later.items split inside.undecided.items _ c.self.invariant.0 _ left) refl c.take_back.ensures.places,
       omega (arith, c.self.invariant.1, c.pop.ensures.len, c.pop.ensures.capacity),
-      omega (arith, fits, ap length left, c.take_back.ensures.capacity, c.take_back.new.undecided.ok.0),
+      omega arith,
     )
 
 pub returns-clause-entries : goal.returns-clause-entries

@@ -12,9 +12,9 @@ invariant_of-self c =
     let pushed = rw c.unwrap.ensures at c.push.ensures.items in
     let longer : vec_len c.push.new.self ≡ vec_len c.self.inside.later + 1 = rw c.unwrap.ensures at c.push.ensures.len in
     let room : 1 ≤ c.self.inside.room = rw (← c.self.view_is) at c.requires.room in (
-      kept_next _ _ _ _ _ _ _ c.args.entry _ _ _ _ c.self.invariant.0 same c.requires.orderly c.published-number.ensures.value c.requires.few pushed c.note_undecided.ensures.numbers c.note_undecided.ensures.capacity (omega (arith, c.self.invariant.2, c.note_undecided.ensures.len, c.note_undecided.ensures.capacity)),
+      kept_next _ _ _ _ _ _ _ c.args.entry _ _ _ _ c.self.invariant.0 same c.requires.orderly c.published-number.ensures.value c.requires.few pushed c.note_undecided.ensures.numbers c.note_undecided.ensures.places (omega arith),
       omega (arith, c.self.invariant.1, c.push.ensures.capacity),
-      omega (arith, c.self.invariant.2, c.note_undecided.ensures.len, c.note_undecided.ensures.capacity),
+      omega (arith, c.self.invariant.2, c.note_undecided.ensures.room),
     )
 
 pub returns-clause-entries : goal.returns-clause-entries
