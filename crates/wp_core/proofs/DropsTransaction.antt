@@ -11,13 +11,12 @@ use Rattle.wp_core.specs.Views.{Fact, undecided_at, prior_values, unprepared, di
 use Rattle.wp_core.specs.World.{Transaction, Actor, Participant, World}
 use Rattle.wp_core.specs.Steps.{Step}
 use Rattle.wp_core.specs.Notes.{ends, ends_transaction}
-use Rattle.wp_core.specs.Entries.{batch_of_name}
 use Rattle.wp_core.specs.Sound.Locks.{Owner, owner_of, IsNameOf, IsDirectOf, IsOwner, AreLocked}
 use Rattle.wp_core.specs.Sound.Views.{Owns}
 use Rattle.wp_core.specs.IsSound.{IsSound, participants}
 use Rattle.wp_model.proofs.Keyed.{is_word_same, else_removed, still_there}
 use Rattle.wp_model.proofs.Tests.{neither}
-use Rattle.wp_core.proofs.OwnerMoves.{owners_apart, key_known, name_kept, direct_kept}
+use Rattle.wp_core.proofs.OwnerMoves.{owners_apart, came_apart, came_itself, beyond_moved, key_known, name_kept, direct_kept}
 use Rattle.wp_core.proofs.AllParticipants.{mine, each_apart}
 use Rattle.wp_core.proofs.LocksChange.{SoWith, actor_after, owners_after, LocksParts, pasts_left, keys_still}
 use Rattle.wp_core.proofs.AllParts.{SoIn}
@@ -29,7 +28,6 @@ pub record Drops (w : World) (name : List ℕ) (t : LockState) (step : Step) : T
   pub others : KeepsOthers w name t
   pub nobody : (c : List ℕ) → finite.get t.names name ≡ Some (Some c) → ⊥
   pub left : finite.get t.names name ≡ Some None → is_some (named w.writes.history name) ≡ true
-  pub left_keys : (k : List ℕ) → finite.get t.names name ≡ Some None → finite.get t.keys k ≡ Some (Txn name) → is_changed (batch_of_name w.writes.history name) k ≡ true
   pub directs_were : (k c : List ℕ) → finite.get t.keys k ≡ Some (Client c) → finite.get w.locks.keys k ≡ Some (Client c)
   pub prepared_names : (q : ℕ) → is_undecided w.writes.history q ≡ true → is_some (finite.get t.names (name_at w.writes.history q)) ≡ true
   pub prepared_keys : (q : ℕ) (k : List ℕ) → is_undecided w.writes.history q ≡ true → is_changed (batch_at w.writes.history q) k ≡ true → finite.get t.keys k ≡ Some (Txn (name_at w.writes.history q))
@@ -54,14 +52,13 @@ module _ (w : World) (by : ℕ) (a : Actor) (name : List ℕ) (x0 : Transaction)
   has_still : (n : List ℕ) (y : Transaction) → (n ≡ name → ⊥) → finite.get a.participant.transactions n ≡ Some y → finite.get p.transactions n ≡ Some y
   has_still n y ne h = else_removed a.participant.transactions name n ne ∙ h
 
-  own_owner : IsOwner w.opened w.writes.history t (owner_of p)
+  own_owner : IsOwner t (owner_of p)
   own_owner =
       let old = s.locks.had by 0 (owner_of a.participant) (mine owner_of w.actors by a a at refl) in
       record {
         names = λ n x h. let g = had_name n x h in d.others.names n g.0 ∙ old.names n x g.1;
         keys = λ n x c h held. let g = had_name n x h in d.others.transactions c n g.0 (old.keys n x c g.1 held);
         direct = λ c h. d.others.directs c a.participant.client (old.direct c h);
-        came = λ n x c h held. old.came n x c (had_name n x h).1 held;
       }
 
   name_still : (n c : List ℕ) → (n ≡ name → ⊥) → IsNameOf (participants owner_of w) n c → IsNameOf after n c
@@ -80,24 +77,20 @@ module _ (w : World) (by : ℕ) (a : Actor) (name : List ℕ) (x0 : Transaction)
       (λ (q : n ≡ name). ap (λ (z : List ℕ). is_some (named w.writes.history z)) q ∙ d.left (ap (finite.get t.names) (sym q) ∙ h))
       (λ (ne : n ≡ name → ⊥). s.locks.names_left n (sym (d.others.names n ne) ∙ h)) (is_word_same n name)
 
-  keys_left : (k n : List ℕ) → finite.get t.names n ≡ Some None → finite.get t.keys k ≡ Some (Txn n) → is_changed (batch_of_name w.writes.history n) k ≡ true
-  keys_left k n h held = ⊎_elim
-      (λ (q : n ≡ name). ap (λ (z : List ℕ). is_changed (batch_of_name w.writes.history z) k) q ∙ d.left_keys k (ap (finite.get t.names) (sym q) ∙ h) (held ∙ ap (λ (z : List ℕ). Some (Txn z)) q))
-      (λ (ne : n ≡ name → ⊥). s.locks.keys_left k n (sym (d.others.names n ne) ∙ h) (d.others.were k n held)) (is_word_same n name)
-
   locked_part : AreLocked w.opened w.writes.history t after
   locked_part = record {
     prepared_names = d.prepared_names;
     prepared_keys = d.prepared_keys;
-    had = each_apart owner_of w.actors by a b at refl (IsOwner w.opened w.writes.history t) own_owner (others_own w by a name x0 at has s t d.others);
+    had = each_apart owner_of w.actors by a b at refl (IsOwner t) own_owner (others_own w by a name x0 at has s t d.others);
+    came = came_apart w.actors by a b at refl (λ e h. h) w.opened w.writes.history (λ n x c h held. came_itself w.actors by a b at refl (λ e q. q) w.opened w.writes.history n c (s.locks.came by 0 (owner_of a.participant) (mine owner_of w.actors by a a at refl) n x c (had_name n x h).1 held)) s.locks.came;
     apart = owners_apart w.actors by a b at refl (λ n x h. inl (x, (had_name n x h).1)) (λ c h. inl h) s.locks.apart;
     names_had = names_had;
     names_left = names_left;
-    keys_left = keys_left;
     keys_live = d.live;
     keys_known = λ k n h. key_known w.actors by a b at refl (λ m x has_it. (had_name m x has_it).1) k n (s.locks.keys_known k n (d.others.were k n h));
     keys_direct = λ k c h. direct_still k c (s.locks.keys_direct k c (d.directs_were k c h));
     unchanged = λ k n q is h. s.locks.unchanged k n q is (d.others.were k n h);
+    beyond = λ k n q is h. beyond_moved w.actors by a b at refl (λ e u. u) w.opened w.writes.history q n k (s.locks.beyond k n q is (d.others.were k n h));
   }
 
   owns_still : (n : List ℕ) → (n ≡ name → ⊥) → Owns a.participant n → Owns p n

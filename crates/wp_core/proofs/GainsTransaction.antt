@@ -4,21 +4,20 @@ use mathlib.Core.Option.{some}
 use lib.ListN.{get_elem?}
 use Rattle.std.specs.FinSet as words
 use Rattle.std.specs.FinMap as finite
-use Rattle.wp_model.specs.History.{named, is_changed}
+use Rattle.wp_model.specs.History.{named}
 use Rattle.wp_model.specs.declared.holder.Holder.TheVariants.{Txn}
 use Rattle.wp_model.specs.LockState.{LockState}
 use Rattle.wp_core.specs.Lists.{IsIn}
-use Rattle.wp_core.specs.Entries.{batch_of_name}
 use Rattle.wp_core.specs.Views.{Event, claimed, took, Fact, undecided_at, prior_values, unprepared, unchanged}
 use Rattle.wp_core.specs.World.{Transaction, Actor, Participant, World}
 use Rattle.wp_core.specs.Steps.{Step}
 use Rattle.wp_core.specs.Changes.{with_name}
 use Rattle.wp_core.specs.Sound.Actors.{IsParticipantAt}
-use Rattle.wp_core.specs.Sound.Locks.{Owner, owner_of, Has, Began, IsNameOf, IsDirectOf, PrepareHas, CameToKey, IsOwner, AreLocked}
+use Rattle.wp_core.specs.Sound.Locks.{Owner, owner_of, Has, Began, IsNameOf, IsDirectOf, PrepareHas, WasLockedFor, CameToKey, CameToKeys, IsOwner, AreLocked}
 use Rattle.wp_core.specs.Sound.Views.{Owns}
 use Rattle.wp_core.specs.IsSound.{IsSound, participants}
 use Rattle.wp_model.proofs.Keyed.{is_word_same, at_inserted, else_inserted, now_inserted, some_inserted}
-use Rattle.wp_core.proofs.OwnerMoves.{owners_apart, came_still, name_kept, direct_kept}
+use Rattle.wp_core.proofs.OwnerMoves.{owners_apart, came_apart, came_itself, locked_for_still, beyond_moved, name_kept, direct_kept}
 use Rattle.wp_core.proofs.AllParticipants.{mine, mine_now, was, each_apart}
 use Rattle.wp_core.proofs.PastsGrow.{in_front, in_last}
 use Rattle.wp_core.proofs.LocksChange.{SoWith, actor_after, owners_after, LocksParts, pasts_grown, board_grown}
@@ -31,7 +30,7 @@ pub record Gains (w : World) (name : List ℕ) (x1 : Transaction) (start : Event
   pub keys : (k : List ℕ) → words.contains x1.locked k ≡ true → finite.get w.locks.keys k ≡ Some (Txn name)
   pub known : (k : List ℕ) → finite.get w.locks.keys k ≡ Some (Txn name) → words.contains x1.locked k ≡ true
   pub begins : (start ≡ claimed name) ⊎ (start ≡ took name)
-  pub came : (k : List ℕ) → words.contains x1.locked k ≡ true → (start ≡ took name) × PrepareHas w.opened w.writes.history name k
+  pub came : (k : List ℕ) → words.contains x1.locked k ≡ true → (start ≡ took name) × (PrepareHas w.opened w.writes.history name k ⊎ WasLockedFor (participants owner_of w) name k)
 
 module _ (w : World) (by : ℕ) (a : Actor) (name : List ℕ) (x1 : Transaction) (start : Event) (step : Step) (at : get_elem? w.actors by ≡ some a) (d : Gains w name x1 start) (s : IsSound w) where
   abbrev pub t : LockState
@@ -57,10 +56,20 @@ module _ (w : World) (by : ℕ) (a : Actor) (name : List ℕ) (x1 : Transaction)
   has_now : (n : List ℕ) (x : Transaction) → finite.get p.transactions n ≡ Some x → ((n ≡ name) × (x1 ≡ x)) ⊎ ((n ≡ name → ⊥) × (finite.get a.participant.transactions n ≡ Some x))
   has_now n x h = now_inserted a.participant.transactions name x1 x n h
 
-  came_now : (n key : List ℕ) → n ≡ name → (start ≡ took name) × PrepareHas w.opened w.writes.history name key → CameToKey w.opened w.writes.history p.past n key
-  came_now n key same (q, has) = subst (λ (z : List ℕ). CameToKey w.opened w.writes.history p.past z key) (sym same) (inr (subst (λ (x : Event). IsIn x p.past) q (in_last start a.participant.past), has))
+  grows : (e : Event) → IsIn e a.participant.past → IsIn e p.past
+  grows e h = in_front e a.participant.past (start ∷ []) h
 
-  own_owner : IsOwner w.opened w.writes.history t (owner_of p)
+  came_now : (n key : List ℕ) → n ≡ name → (start ≡ took name) × (PrepareHas w.opened w.writes.history name key ⊎ WasLockedFor (participants owner_of w) name key) → CameToKey w.opened w.writes.history after p.past n key
+  came_now n key same c =
+      let has : PrepareHas w.opened w.writes.history name key ⊎ WasLockedFor after name key = ⊎_elim (λ k. inl k) (λ was. inr (locked_for_still w.actors by a b at refl grows name key was)) c.1 in
+      subst (λ (z : List ℕ). CameToKey w.opened w.writes.history after p.past z key) (sym same) (inr (subst (λ (x : Event). IsIn x p.past) c.0 (in_last start a.participant.past), has))
+
+  own_came : CameToKeys w.opened w.writes.history after (owner_of p)
+  own_came n x key h held = ⊎_elim
+      (λ (u : (n ≡ name) × (x1 ≡ x)). came_now n key u.0 (d.came key (subst (λ (z : Transaction). words.contains z.locked key ≡ true) (sym u.1) held)))
+      (λ (u : (n ≡ name → ⊥) × (finite.get a.participant.transactions n ≡ Some x)). came_itself w.actors by a b at refl grows w.opened w.writes.history n key (s.locks.came by 0 (owner_of a.participant) (mine owner_of w.actors by a a at refl) n x key u.1 held)) (has_now n x h)
+
+  own_owner : IsOwner t (owner_of p)
   own_owner =
       let old = s.locks.had by 0 (owner_of a.participant) (mine owner_of w.actors by a a at refl) in
       record {
@@ -71,13 +80,10 @@ module _ (w : World) (by : ℕ) (a : Actor) (name : List ℕ) (x1 : Transaction)
             (λ (u : (n ≡ name) × (x1 ≡ x)). d.keys key (subst (λ (z : Transaction). words.contains z.locked key ≡ true) (sym u.1) held) ∙ ap (λ (z : List ℕ). Some (Txn z)) (sym u.0))
             (λ (u : (n ≡ name → ⊥) × (finite.get a.participant.transactions n ≡ Some x)). old.keys n x key u.1 held) (has_now n x h);
         direct = old.direct;
-        came = λ n x key h held. ⊎_elim
-            (λ (u : (n ≡ name) × (x1 ≡ x)). came_now n key u.0 (d.came key (subst (λ (z : Transaction). words.contains z.locked key ≡ true) (sym u.1) held)))
-            (λ (u : (n ≡ name → ⊥) × (finite.get a.participant.transactions n ≡ Some x)). came_still w.opened w.writes.history a.participant.past p.past (λ e k. in_front e a.participant.past (start ∷ []) k) n key (old.came n x key u.1 held)) (has_now n x h);
       }
 
-  other_owner : (o : Owner) → IsOwner w.opened w.writes.history w.locks o → IsOwner w.opened w.writes.history t o
-  other_owner o k = record { names = λ n x h. live_still n o.client (k.names n x h); keys = k.keys; direct = k.direct; came = k.came }
+  other_owner : (o : Owner) → IsOwner w.locks o → IsOwner t o
+  other_owner o k = record { names = λ n x h. live_still n o.client (k.names n x h); keys = k.keys; direct = k.direct }
 
   -- nobody had the name
   none_had : (j i : ℕ) (o : Owner) (x : Transaction) → IsParticipantAt (participants owner_of w) j i o → Has o name x → ⊥
@@ -116,11 +122,6 @@ module _ (w : World) (by : ℕ) (a : Actor) (name : List ℕ) (x1 : Transaction)
       (λ (e : n ≡ name). let q : Some (Some a.participant.client) ≡ Some None = sym (at_inserted w.locks.names name (Some a.participant.client) n e) ∙ h in absurd cc)
       (λ (ne : n ≡ name → ⊥). s.locks.names_left n (sym (else_inserted w.locks.names name (Some a.participant.client) n ne) ∙ h)) (is_word_same n name)
 
-  keys_left : (key n : List ℕ) → finite.get t.names n ≡ Some None → finite.get w.locks.keys key ≡ Some (Txn n) → is_changed (batch_of_name w.writes.history n) key ≡ true
-  keys_left key n h held = ⊎_elim
-      (λ (e : n ≡ name). let q : Some (Some a.participant.client) ≡ Some None = sym (at_inserted w.locks.names name (Some a.participant.client) n e) ∙ h in absurd cc)
-      (λ (ne : n ≡ name → ⊥). s.locks.keys_left key n (sym (else_inserted w.locks.names name (Some a.participant.client) n ne) ∙ h) held) (is_word_same n name)
-
   keys_known : (key n : List ℕ) → finite.get w.locks.keys key ≡ Some (Txn n) → (j i : ℕ) (o : Owner) → IsParticipantAt after j i o → (x : Transaction) → Has o n x → words.contains x.locked key ≡ true
   keys_known key n h j i o there x has = ⊎_elim
       (λ (g : (j ≡ by) × (i ≡ 0) × (o ≡ owner_of p)). ⊎_elim
@@ -133,15 +134,16 @@ module _ (w : World) (by : ℕ) (a : Actor) (name : List ℕ) (x1 : Transaction)
   locked_part = record {
     prepared_names = λ q u. some_inserted w.locks.names name (Some a.participant.client) _ (s.locks.prepared_names q u);
     prepared_keys = s.locks.prepared_keys;
-    had = each_apart owner_of w.actors by a b at refl (IsOwner w.opened w.writes.history t) own_owner (λ j i o elsewhere there. other_owner o (s.locks.had j i o there));
+    had = each_apart owner_of w.actors by a b at refl (IsOwner t) own_owner (λ j i o elsewhere there. other_owner o (s.locks.had j i o there));
+    came = came_apart w.actors by a b at refl grows w.opened w.writes.history own_came s.locks.came;
     apart = owners_apart w.actors by a b at refl had_or_new (λ c h. inl h) s.locks.apart;
     names_had = names_had;
     names_left = names_left;
-    keys_left = keys_left;
     keys_live = λ key n h. some_inserted w.locks.names name (Some a.participant.client) n (s.locks.keys_live key n h);
     keys_known = keys_known;
     keys_direct = λ key client h. direct_still key client (s.locks.keys_direct key client h);
     unchanged = s.locks.unchanged;
+    beyond = λ key n q is h. beyond_moved w.actors by a b at refl grows w.opened w.writes.history q n key (s.locks.beyond key n q is h);
   }
 
   -- ---- what is noted

@@ -19,7 +19,7 @@ use Rattle.wp_core.specs.Sound.Locks.{Owner, owner_of, IsNameOf, IsDirectOf, IsO
 use Rattle.wp_core.specs.Sound.Views.{AreKeysOf}
 use Rattle.wp_core.specs.IsSound.{IsSound, participants}
 use Rattle.wp_model.proofs.Keyed.{is_word_same, else_removed, still_there}
-use Rattle.wp_core.proofs.OwnerMoves.{owners_apart, key_known, name_kept, direct_kept}
+use Rattle.wp_core.proofs.OwnerMoves.{owners_apart, came_apart, came_itself, beyond_moved, key_known, name_kept, direct_kept}
 use Rattle.wp_core.proofs.AllParticipants.{mine, each_apart}
 use Rattle.wp_core.proofs.LocksChange.{SoWith, actor_after, owners_after, LocksParts, locks_change, pasts_left, keys_still}
 use Rattle.wp_core.proofs.AllParts.{SoIn}
@@ -60,15 +60,15 @@ module _ (w : World) (by : ℕ) (a : Actor) (key : List ℕ) (at : get_elem? w.a
       let same = s.locks.apart.direct j i by 0 o (owner_of a.participant) key there (mine owner_of w.actors by a a at refl) (h ∙ ap (λ (z : List ℕ). Some z) q) has in
       ⊎_elim (λ (ne : j ≢ by). ne same.0) (λ (ne : i ≢ 0). ne same.1) elsewhere
 
-  other_owner : (j i : ℕ) (o : Owner) → ((j ≢ by) ⊎ (i ≢ 0)) → IsParticipantAt (participants owner_of w) j i o → IsOwner w.opened w.writes.history t o
+  other_owner : (j i : ℕ) (o : Owner) → ((j ≢ by) ⊎ (i ≢ 0)) → IsParticipantAt (participants owner_of w) j i o → IsOwner t o
   other_owner j i o elsewhere there =
       let k = s.locks.had j i o there in
-      record { names = k.names; keys = λ name x c h held. txn_still c name (k.keys name x c h held); direct = λ c h. else_removed w.locks.keys key c (not_theirs j i o c elsewhere there h) ∙ k.direct c h; came = k.came }
+      record { names = k.names; keys = λ name x c h held. txn_still c name (k.keys name x c h held); direct = λ c h. else_removed w.locks.keys key c (not_theirs j i o c elsewhere there h) ∙ k.direct c h }
 
-  own_owner : IsOwner w.opened w.writes.history t (owner_of p)
+  own_owner : IsOwner t (owner_of p)
   own_owner =
       let old = s.locks.had by 0 (owner_of a.participant) (mine owner_of w.actors by a a at refl) in
-      record { names = old.names; keys = λ name x c h held. txn_still c name (old.keys name x c h held); direct = λ c h. absurd cc; came = old.came }
+      record { names = old.names; keys = λ name x c h held. txn_still c name (old.keys name x c h held); direct = λ c h. absurd cc }
 
   -- it has no direct write
   had_direct : (c : List ℕ) → p.direct ≡ Some c → a.participant.direct ≡ Some c
@@ -87,15 +87,16 @@ module _ (w : World) (by : ℕ) (a : Actor) (key : List ℕ) (at : get_elem? w.a
   locked_part = record {
     prepared_names = s.locks.prepared_names;
     prepared_keys = λ q k u h. txn_still k (name_at w.writes.history q) (s.locks.prepared_keys q k u h);
-    had = each_apart owner_of w.actors by a b at refl (IsOwner w.opened w.writes.history t) own_owner other_owner;
+    had = each_apart owner_of w.actors by a b at refl (IsOwner t) own_owner other_owner;
+    came = came_apart w.actors by a b at refl (λ e h. h) w.opened w.writes.history (λ n x c h held. came_itself w.actors by a b at refl (λ e q. q) w.opened w.writes.history n c (s.locks.came by 0 (owner_of a.participant) (mine owner_of w.actors by a a at refl) n x c h held)) s.locks.came;
     apart = owners_apart w.actors by a b at refl (λ n x h. inl (x, h)) (λ c h. inl (had_direct c h)) s.locks.apart;
     names_had = λ n c h. name_still n c (s.locks.names_had n c h);
     names_left = s.locks.names_left;
-    keys_left = λ k n left h. s.locks.keys_left k n left (held_before k (Txn n) h).1;
     keys_live = λ k n h. s.locks.keys_live k n (held_before k (Txn n) h).1;
     keys_known = λ k n h. key_known w.actors by a b at refl (λ m x has. has) k n (s.locks.keys_known k n (held_before k (Txn n) h).1);
     keys_direct = λ k c h. let u = held_before k (Client c) h in direct_still k c u.0 (s.locks.keys_direct k c u.1);
     unchanged = λ k n q is h. s.locks.unchanged k n q is (held_before k (Txn n) h).1;
+    beyond = λ k n q is h. beyond_moved w.actors by a b at refl (λ e u. u) w.opened w.writes.history q n k (s.locks.beyond k n q is (held_before k (Txn n) h).1);
   }
 
   same_keys : (n : List ℕ) (keys : List (List ℕ)) → AreKeysOf w.locks.keys n keys → AreKeysOf t.keys n keys

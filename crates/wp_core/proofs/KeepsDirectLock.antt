@@ -18,7 +18,7 @@ use Rattle.wp_core.specs.Sound.Actors.{IsParticipantAt}
 use Rattle.wp_core.specs.Sound.Locks.{Owner, owner_of, IsNameOf, IsDirectOf, IsOwner, AreLocked}
 use Rattle.wp_core.specs.IsSound.{IsSound, participants}
 use Rattle.wp_model.proofs.Keyed.{at_inserted}
-use Rattle.wp_core.proofs.OwnerMoves.{owners_apart, key_known, came_still, name_kept, direct_kept}
+use Rattle.wp_core.proofs.OwnerMoves.{owners_apart, came_apart, came_itself, beyond_moved, key_known, name_kept, direct_kept}
 use Rattle.wp_core.proofs.AllParticipants.{mine, mine_now, each_apart}
 use Rattle.wp_core.proofs.PastsGrow.{in_front, in_last}
 use Rattle.wp_core.proofs.LocksChange.{SoWith, actor_after, owners_after, LocksParts, locks_change}
@@ -48,10 +48,10 @@ module _ (w : World) (by : ℕ) (a : Actor) (key : List ℕ) (at : get_elem? w.a
   own_after : IsParticipantAt after by 0 (owner_of p)
   own_after = mine_now owner_of w.actors by a b at refl
 
-  own_owner : IsOwner w.opened w.writes.history t (owner_of p)
+  own_owner : IsOwner t (owner_of p)
   own_owner =
       let old = s.locks.had by 0 (owner_of a.participant) (mine owner_of w.actors by a a at refl) in
-      record { names = old.names; keys = λ name x c h held. held_still w key (Client client) free c (Txn name) (old.keys name x c h held); direct = λ c h. let same : key ≡ c = cc in at_inserted w.locks.keys key (Client client) c (sym same); came = λ name x c h held. came_still w.opened w.writes.history a.participant.past p.past (λ x k. in_front x a.participant.past (e ∷ []) k) name c (old.came name x c h held) }
+      record { names = old.names; keys = λ name x c h held. held_still w key (Client client) free c (Txn name) (old.keys name x c h held); direct = λ c h. let same : key ≡ c = cc in at_inserted w.locks.keys key (Client client) c (sym same) }
 
   none_had : (j i : ℕ) (o : Owner) (k : List ℕ) → IsParticipantAt (participants owner_of w) j i o → o.direct ≡ Some k → k ≡ key → ⊥
   none_had j i o k there h q = let f : None ≡ Some (Client o.client) = sym free ∙ ap (finite.get w.locks.keys) (sym q) ∙ (s.locks.had j i o there).direct k h in absurd cc
@@ -76,19 +76,23 @@ module _ (w : World) (by : ℕ) (a : Actor) (key : List ℕ) (at : get_elem? w.a
   txn_held : (k n : List ℕ) → finite.get t.keys k ≡ Some (Txn n) → finite.get w.locks.keys k ≡ Some (Txn n)
   txn_held k n h = ⊎_elim (λ (g : (k ≡ key) × (Client client ≡ Txn n)). let f = g.1 in absurd cc) (λ (g : (k ≡ key → ⊥) × (finite.get w.locks.keys k ≡ Some (Txn n))). g.1) (held_now w key (Client client) free k (Txn n) h)
 
+  grows : (x : Event) → IsIn x a.participant.past → IsIn x p.past
+  grows x k = in_front x a.participant.past (e ∷ []) k
+
   locked_part : AreLocked w.opened w.writes.history t after
   locked_part = record {
     prepared_names = s.locks.prepared_names;
     prepared_keys = λ q k u h. held_still w key (Client client) free k (Txn (name_at w.writes.history q)) (s.locks.prepared_keys q k u h);
-    had = each_apart owner_of w.actors by a b at refl (IsOwner w.opened w.writes.history t) own_owner (λ j i o elsewhere there. owner_locked w key (Client client) free w.opened w.writes.history o (s.locks.had j i o there));
+    had = each_apart owner_of w.actors by a b at refl (IsOwner t) own_owner (λ j i o elsewhere there. owner_locked w key (Client client) free o (s.locks.had j i o there));
+    came = came_apart w.actors by a b at refl grows w.opened w.writes.history (λ n x c h held. came_itself w.actors by a b at refl grows w.opened w.writes.history n c (s.locks.came by 0 (owner_of a.participant) (mine owner_of w.actors by a a at refl) n x c h held)) s.locks.came;
     apart = owners_apart w.actors by a b at refl (λ n x h. inl (x, h)) (λ c h. inr (is_new c h)) s.locks.apart;
     names_had = λ n c h. name_still n c (s.locks.names_had n c h);
     names_left = s.locks.names_left;
-    keys_left = λ k n left h. s.locks.keys_left k n left (txn_held k n h);
     keys_live = λ k n h. s.locks.keys_live k n (txn_held k n h);
     keys_known = λ k n h. key_known w.actors by a b at refl (λ m x has. has) k n (s.locks.keys_known k n (txn_held k n h));
     keys_direct = direct_held;
     unchanged = λ k n q is h. s.locks.unchanged k n q is (txn_held k n h);
+    beyond = λ k n q is h. beyond_moved w.actors by a b at refl grows w.opened w.writes.history q n k (s.locks.beyond k n q is (txn_held k n h));
   }
 
   -- a client is no transaction

@@ -20,10 +20,10 @@ use Rattle.wp_core.specs.Effects.{done}
 use Rattle.wp_core.specs.Needs.{Needs}
 use Rattle.wp_core.specs.Notes.{forgets, ends}
 use Rattle.wp_core.specs.Sound.Actors.{IsParticipantAt}
-use Rattle.wp_core.specs.Sound.Locks.{Owner, owner_of, Has, IsNameOf, IsDirectOf, CameToKey, IsOwner, AreLocked}
+use Rattle.wp_core.specs.Sound.Locks.{Owner, owner_of, Has, IsNameOf, IsDirectOf, CameToKey, CameToKeys, IsOwner, AreLocked}
 use Rattle.wp_core.specs.IsSound.{IsSound, participants}
 use Rattle.wp_model.proofs.Keyed.{same_test, is_word_same, not_same, else_removed, still_there}
-use Rattle.wp_core.proofs.OwnerMoves.{owners_apart, name_kept, direct_kept}
+use Rattle.wp_core.proofs.OwnerMoves.{owners_apart, came_apart, came_itself, beyond_moved, name_kept, direct_kept}
 use Rattle.wp_core.proofs.AllParticipants.{mine, was, each_apart}
 use Rattle.wp_history_laws.proofs.Named.{none_named}
 use Rattle.wp_core.proofs.LocksChange.{SoWith, actor_after, owners_after, LocksParts, locks_change, pasts_left, keys_still}
@@ -91,15 +91,20 @@ module _ (w : World) (by : ℕ) (a : Actor) (name : List ℕ) (x0 : Transaction)
   keeps_others : KeepsOthers w name t
   keeps_others = record { names = λ n ne. refl; transactions = txn_still; prepared = λ k n q is h. txn_still k n (other_name n q is) h; directs = direct_held; were = λ k n h. (held_before k (Txn n) h).1 }
 
-  own_owner : IsOwner w.opened w.writes.history t (owner_of p)
+  own_owner : IsOwner t (owner_of p)
   own_owner =
       let old = s.locks.had by 0 (owner_of a.participant) (mine owner_of w.actors by a a at refl) in
       record {
         names = λ n x h. let y = had_name w by a name x0 x1 at has n x h in old.names n y.0 y.1;
         keys = each_key w by a name x0 x1 at has (λ n c. finite.get t.keys c ≡ Some (Txn n)) (λ c in_it. let g = was_in x0.locked key c in_it in other_still c (Txn name) g.0 (old.keys name x0 c has g.1)) (λ n x c ne h held. txn_still c n ne (old.keys n x c h held));
         direct = λ c h. direct_held c client (old.direct c h);
-        came = each_key w by a name x0 x1 at has (λ n c. CameToKey w.opened w.writes.history p.past n c) (λ c in_it. old.came name x0 c has (was_in x0.locked key c in_it).1) (λ n x c ne h held. old.came n x c h held);
       }
+
+  own_came : CameToKeys w.opened w.writes.history after (owner_of p)
+  own_came =
+      let old = s.locks.came by 0 (owner_of a.participant) (mine owner_of w.actors by a a at refl) in
+      let still : (n c : List ℕ) → CameToKey w.opened w.writes.history (participants owner_of w) a.participant.past n c → CameToKey w.opened w.writes.history after p.past n c = λ n c k. came_itself w.actors by a b at refl (λ e h. h) w.opened w.writes.history n c k in
+      each_key w by a name x0 x1 at has (λ n c. CameToKey w.opened w.writes.history after p.past n c) (λ c in_it. still name c (old name x0 c has (was_in x0.locked key c in_it).1)) (λ n x c ne h held. still n c (old n x c h held))
 
   name_still : (n c : List ℕ) → IsNameOf (participants owner_of w) n c → IsNameOf after n c
   name_still n c k = name_kept w.actors by a b at refl refl (λ x k. k) n c (λ y h. has_still w by a name x0 x1 at has n y h) k
@@ -125,15 +130,16 @@ module _ (w : World) (by : ℕ) (a : Actor) (name : List ℕ) (x0 : Transaction)
   locked_part = record {
     prepared_names = s.locks.prepared_names;
     prepared_keys = prepared_keys;
-    had = each_apart owner_of w.actors by a b at refl (IsOwner w.opened w.writes.history t) own_owner (others_own w by a name x0 at has s t keeps_others);
+    had = each_apart owner_of w.actors by a b at refl (IsOwner t) own_owner (others_own w by a name x0 at has s t keeps_others);
+    came = came_apart w.actors by a b at refl (λ e h. h) w.opened w.writes.history own_came s.locks.came;
     apart = owners_apart w.actors by a b at refl (λ n x h. inl (had_name w by a name x0 x1 at has n x h)) (λ c h. inl h) s.locks.apart;
     names_had = λ n c h. name_still n c (s.locks.names_had n c h);
     names_left = s.locks.names_left;
-    keys_left = λ k n left h. s.locks.keys_left k n left (held_before k (Txn n) h).1;
     keys_live = λ k n h. s.locks.keys_live k n (held_before k (Txn n) h).1;
     keys_known = keys_known;
     keys_direct = λ k c h. direct_still k c (s.locks.keys_direct k c (held_before k (Client c) h).1);
     unchanged = λ k n q is h. s.locks.unchanged k n q is (held_before k (Txn n) h).1;
+    beyond = λ k n q is h. beyond_moved w.actors by a b at refl (λ e u. u) w.opened w.writes.history q n k (s.locks.beyond k n q is (held_before k (Txn n) h).1);
   }
 
   mine_still : (fact : Fact) → not (ends w.writes.history (length w.cache) (free_key name x0 key) fact) ≡ true → SoIn w a.participant fact → SoWith w t p fact

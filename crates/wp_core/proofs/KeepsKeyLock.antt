@@ -9,11 +9,10 @@ use Rattle.std.specs.Ordering.{eq_by_cmp}
 use Rattle.std.proofs.lemmas.Cmp.{nat_list_cmp_total}
 use Rattle.wp_model.specs.Batch.{key_cmp}
 use Rattle.wp_model.specs.Changed.{IsUnchanged}
-use Rattle.wp_model.specs.History.{holder_of, name_at, named, is_changed}
+use Rattle.wp_model.specs.History.{holder_of, name_at, named}
 use Rattle.wp_model.specs.declared.holder.Holder.TheVariants.{Txn, Client}
 use Rattle.wp_model.specs.LockState.{LockState}
 use Rattle.wp_model.proofs.Found.{found_holder}
-use Rattle.wp_core.specs.Entries.{batch_of_name}
 use Rattle.wp_core.specs.Lists.{IsIn}
 use Rattle.wp_core.specs.Views.{Event, locked, Fact, undecided_at, prior_values, unprepared, direct_free, unchanged, locks_stay}
 use Rattle.wp_core.specs.World.{Transaction, Actor, Participant, World}
@@ -23,10 +22,10 @@ use Rattle.wp_core.specs.Effects.{done}
 use Rattle.wp_core.specs.Needs.{Needs}
 use Rattle.wp_core.specs.Notes.{forgets}
 use Rattle.wp_core.specs.Sound.Actors.{IsParticipantAt}
-use Rattle.wp_core.specs.Sound.Locks.{Owner, owner_of, Has, IsNameOf, IsDirectOf, CameToKey, IsOwner, AreLocked}
+use Rattle.wp_core.specs.Sound.Locks.{Owner, owner_of, Has, IsNameOf, IsDirectOf, CameToKey, CameToKeys, HasOrLocked, IsOwner, AreLocked}
 use Rattle.wp_core.specs.IsSound.{IsSound, participants}
 use Rattle.wp_model.proofs.Keyed.{same_test, is_word_same, not_same, at_inserted}
-use Rattle.wp_core.proofs.OwnerMoves.{owners_apart, came_still, name_kept, direct_kept}
+use Rattle.wp_core.proofs.OwnerMoves.{owners_apart, came_apart, came_itself, beyond_moved, name_kept, direct_kept}
 use Rattle.wp_core.proofs.AllParticipants.{mine, was_apart, each_apart}
 use Rattle.wp_core.proofs.PastsGrow.{in_front, in_last}
 use Rattle.wp_core.proofs.LocksChange.{SoWith, actor_after, owners_after, LocksParts, locks_change}
@@ -68,9 +67,8 @@ module _ (w : World) (by : ℕ) (a : Actor) (name : List ℕ) (x0 : Transaction)
   abbrev after : List (List Owner)
   after = owners_after w by a (lock_key name x0 key) p t
 
-  own_owner : IsOwner w.opened w.writes.history t (owner_of p)
+  own_owner : IsOwner t (owner_of p)
   own_owner =
-      let still = came_still w.opened w.writes.history a.participant.past p.past (λ x k. in_front x a.participant.past (e ∷ []) k) in
       let old = s.locks.had by 0 (owner_of a.participant) (mine owner_of w.actors by a a at refl) in
       record {
         names = λ n x h. let y = had_name w by a name x0 x1 at has n x h in old.names n y.0 y.1;
@@ -80,12 +78,20 @@ module _ (w : World) (by : ℕ) (a : Actor) (name : List ℕ) (x0 : Transaction)
             (λ (ne : c ≡ key → ⊥). held_still w key (Txn name) free c (Txn name) (old.keys name x0 c has (was_in x0.locked key c ne in_it))) (is_word_same c key))
             (λ n x c ne h held. held_still w key (Txn name) free c (Txn n) (old.keys n x c h held));
         direct = λ c h. held_still w key (Txn name) free c (Client a.participant.client) (old.direct c h);
-        came = each_key w by a name x0 x1 at has (λ n c. CameToKey w.opened w.writes.history p.past n c)
-            (λ c in_it. ⊎_elim
-            (λ (q : c ≡ key). inl (subst (λ (z : List ℕ). IsIn (locked z (Txn name)) p.past) (sym q) (in_last e a.participant.past)))
-            (λ (ne : c ≡ key → ⊥). still name c (old.came name x0 c has (was_in x0.locked key c ne in_it))) (is_word_same c key))
-            (λ n x c ne h held. still n c (old.came n x c h held));
       }
+
+  grows : (x : Event) → IsIn x a.participant.past → IsIn x p.past
+  grows x k = in_front x a.participant.past (e ∷ []) k
+
+  own_came : CameToKeys w.opened w.writes.history after (owner_of p)
+  own_came =
+      let old = s.locks.came by 0 (owner_of a.participant) (mine owner_of w.actors by a a at refl) in
+      let still : (n c : List ℕ) → CameToKey w.opened w.writes.history (participants owner_of w) a.participant.past n c → CameToKey w.opened w.writes.history after p.past n c = λ n c k. came_itself w.actors by a b at refl grows w.opened w.writes.history n c k in
+      each_key w by a name x0 x1 at has (λ n c. CameToKey w.opened w.writes.history after p.past n c)
+      (λ c in_it. ⊎_elim
+      (λ (q : c ≡ key). inl (subst (λ (z : List ℕ). IsIn (locked z (Txn name)) p.past) (sym q) (in_last e a.participant.past)))
+      (λ (ne : c ≡ key → ⊥). still name c (old name x0 c has (was_in x0.locked key c ne in_it))) (is_word_same c key))
+      (λ n x c ne h held. still n c (old n x c h held))
 
   name_still : (n c : List ℕ) → IsNameOf (participants owner_of w) n c → IsNameOf after n c
   name_still n c k = name_kept w.actors by a b at refl refl (λ x k. in_front x a.participant.past (e ∷ []) k) n c (λ y h. has_still w by a name x0 x1 at has n y h) k
@@ -119,15 +125,6 @@ module _ (w : World) (by : ℕ) (a : Actor) (name : List ℕ) (x0 : Transaction)
       both (inl g) (inr v) = let same : name ≡ n = let f = g.1 in cc in absurd (nobody_else w by a name x0 at has s j i o n x v.0 v.1 there_has (sym same))
       both (inr g) (inr v) = s.locks.keys_known k n g.1 j i o v.1 x there_has
 
-  -- the name of the key is the actor's
-  keys_left : (k n : List ℕ) → finite.get w.locks.names n ≡ Some None → finite.get t.keys k ≡ Some (Txn n) → is_changed (batch_of_name w.writes.history n) k ≡ true
-  keys_left k n left h = ⊎_elim
-      (λ (g : (k ≡ key) × (Txn name ≡ Txn n)).
-      let same : name ≡ n = let f = g.1 in cc in
-      let had = (s.locks.had by 0 (owner_of a.participant) (mine owner_of w.actors by a a at refl)).names name x0 has in
-      let f : Some (Some a.participant.client) ≡ Some None = sym had ∙ (ap (finite.get w.locks.names) same ∙ left) in absurd cc)
-      (λ (g : (k ≡ key → ⊥) × (finite.get w.locks.keys k ≡ Some (Txn n))). s.locks.keys_left k n left g.1) (held_now w key (Txn name) free k (Txn n) h)
-
   -- a prepared transaction is another one
   other : (n : List ℕ) (q : ℕ) → named w.writes.history n ≡ Some q → Txn name ≡ Txn n → ⊥
   other n q is e = let same : name ≡ n = cc in none_some (named w.writes.history name) q unprepared_one (ap (named w.writes.history) same ∙ is)
@@ -136,6 +133,11 @@ module _ (w : World) (by : ℕ) (a : Actor) (name : List ℕ) (x0 : Transaction)
   unchanged_still k n q is h = ⊎_elim
       (λ (g : (k ≡ key) × (Txn name ≡ Txn n)). absurd (other n q is g.1))
       (λ (g : (k ≡ key → ⊥) × (finite.get w.locks.keys k ≡ Some (Txn n))). s.locks.unchanged k n q is g.1) (held_now w key (Txn name) free k (Txn n) h)
+
+  beyond : (k n : List ℕ) (q : ℕ) → named w.writes.history n ≡ Some q → finite.get t.keys k ≡ Some (Txn n) → HasOrLocked w.opened w.writes.history after q n k
+  beyond k n q is h = ⊎_elim
+      (λ (g : (k ≡ key) × (Txn name ≡ Txn n)). absurd (other n q is g.1))
+      (λ (g : (k ≡ key → ⊥) × (finite.get w.locks.keys k ≡ Some (Txn n))). beyond_moved w.actors by a b at refl grows w.opened w.writes.history q n k (s.locks.beyond k n q is g.1)) (held_now w key (Txn name) free k (Txn n) h)
 
   keys_direct : (k c : List ℕ) → finite.get t.keys k ≡ Some (Client c) → IsDirectOf after k c
   keys_direct k c h = ⊎_elim
@@ -146,15 +148,16 @@ module _ (w : World) (by : ℕ) (a : Actor) (name : List ℕ) (x0 : Transaction)
   locked_part = record {
     prepared_names = s.locks.prepared_names;
     prepared_keys = λ q k u h. held_still w key (Txn name) free k (Txn (name_at w.writes.history q)) (s.locks.prepared_keys q k u h);
-    had = each_apart owner_of w.actors by a b at refl (IsOwner w.opened w.writes.history t) own_owner (λ j i o elsewhere there. owner_locked w key (Txn name) free w.opened w.writes.history o (s.locks.had j i o there));
+    had = each_apart owner_of w.actors by a b at refl (IsOwner t) own_owner (λ j i o elsewhere there. owner_locked w key (Txn name) free o (s.locks.had j i o there));
+    came = came_apart w.actors by a b at refl grows w.opened w.writes.history own_came s.locks.came;
     apart = owners_apart w.actors by a b at refl (λ n x h. inl (had_name w by a name x0 x1 at has n x h)) (λ c h. inl h) s.locks.apart;
     names_had = λ n c h. name_still n c (s.locks.names_had n c h);
     names_left = s.locks.names_left;
-    keys_left = keys_left;
     keys_live = keys_live;
     keys_known = keys_known;
     keys_direct = keys_direct;
     unchanged = unchanged_still;
+    beyond = beyond;
   }
 
   -- no undecided prepare changes the key

@@ -79,7 +79,6 @@ module _ (w : World) (by : ℕ) (a : Actor) (name : List ℕ) (x0 : Transaction)
     others = record { names = λ n ne. else_removed w.locks.names name n ne; transactions = transactions; prepared = λ k n q is h. transactions k n (λ same. none_some (named w.writes.history name) q unprepared (ap (named w.writes.history) (sym same) ∙ is)) h; directs = directs; were = λ k n h. were k (Txn n) h };
     nobody = λ c h. let f : None ≡ Some (Some c) = sym (at_removed w.locks.names name name refl) ∙ h in absurd cc;
     left = λ h. let f : None ≡ Some None = sym (at_removed w.locks.names name name refl) ∙ h in absurd cc;
-    left_keys = λ k h held. absurd (for_another k name held refl);
     directs_were = λ k c h. were k (Client c) h;
     prepared_names = λ q u. ap is_some (else_removed w.locks.names name (name_at w.writes.history q) (λ same. none_named w.writes.history name q unprepared u same)) ∙ s.locks.prepared_names q u;
     prepared_keys = λ q k u h. transactions k (name_at w.writes.history q) (λ same. none_named w.writes.history name q unprepared u same) (s.locks.prepared_keys q k u h);

@@ -3,12 +3,10 @@ use Rattle.std.proofs.Common.{◌≡◌, not, ⊎_elim, ℕ, true, true≢false,
 use mathlib.Core.Option.{some}
 use lib.ListN.{get_elem?}
 use Rattle.std.specs.Str.{bytes_eq}
-use Rattle.std.specs.FinSet as words
 use Rattle.std.specs.FinMap as finite
 use Rattle.std.proofs.lemmas.Slice.Eq.{bytes_eq-Decides}
-use Rattle.wp_model.specs.History.{name_at, named, is_changed}
+use Rattle.wp_model.specs.History.{name_at, named}
 use Rattle.wp_model.specs.LockState.{LockState}
-use Rattle.wp_core.specs.Entries.{batch_of_name}
 use Rattle.wp_core.specs.World.{Transaction, Actor, World}
 use Rattle.wp_core.specs.Steps.{leave_name}
 use Rattle.wp_core.specs.Changes.{with_name}
@@ -26,7 +24,7 @@ use Rattle.wp_core.proofs.DropsTransaction.{Drops, p, dropped_parts}
 pub two_names : (name n : List ℕ) → not (bytes_eq name n) ≡ true → n ≡ name → ⊥
 two_names name n h same = true≢false (sym h ∙ ap not ((bytes_eq-Decides name n).1 (sym same)))
 
-module _ (w : World) (by : ℕ) (a : Actor) (name : List ℕ) (x0 : Transaction) (at : get_elem? w.actors by ≡ some a) (has : finite.get a.participant.transactions name ≡ Some x0) (batch_has : (key : List ℕ) → words.contains x0.locked key ≡ true → is_changed (batch_of_name w.writes.history name) key ≡ true) (prepared : is_some (named w.writes.history name) ≡ true) (s : IsSound w) where
+module _ (w : World) (by : ℕ) (a : Actor) (name : List ℕ) (x0 : Transaction) (at : get_elem? w.actors by ≡ some a) (has : finite.get a.participant.transactions name ≡ Some x0) (prepared : is_some (named w.writes.history name) ≡ true) (s : IsSound w) where
   abbrev t : LockState
   t = with_name w.locks name None
 
@@ -44,7 +42,6 @@ module _ (w : World) (by : ℕ) (a : Actor) (name : List ℕ) (x0 : Transaction)
     others = record { names = λ n ne. else_inserted w.locks.names name None n ne; transactions = λ k n ne h. h; prepared = λ k n q is h. h; directs = λ k c h. h; were = λ k n h. h };
     nobody = λ c h. let f : Some None ≡ Some (Some c) = sym (at_inserted w.locks.names name None name refl) ∙ h in absurd cc;
     left = λ h. prepared;
-    left_keys = λ k h held. batch_has k (s.locks.keys_known k name held by 0 (owner_of a.participant) (mine owner_of w.actors by a a at refl) x0 has);
     directs_were = λ k c h. h;
     prepared_names = λ q u. some_inserted w.locks.names name None (name_at w.writes.history q) (s.locks.prepared_names q u);
     prepared_keys = s.locks.prepared_keys;
@@ -56,6 +53,6 @@ module _ (w : World) (by : ℕ) (a : Actor) (name : List ℕ) (x0 : Transaction)
 pub leaves_name : (w : World) (by : ℕ) (a : Actor) (name : List ℕ) → get_elem? w.actors by ≡ some a → Needs w by a (leave_name name) → IsSound w
     → IsSound (done w by (forgets w.writes.history (length w.cache) (leave_name name) a) (leave_name name))
 leaves_name w by a name at needs s =
-    let d = left_one w by a name needs.1.0 at needs.1.1 needs.1.2 needs.2 s in
+    let d = left_one w by a name needs.1.0 at needs.1.1 needs.2 s in
     locks_change w by a (leave_name name) (p w by a name needs.1.0 (with_name w.locks name None) (leave_name name) at needs.1.1 d s) (with_name w.locks name None) at needs.0
     (dropped_parts w by a name needs.1.0 (with_name w.locks name None) (leave_name name) at needs.1.1 d s) s

@@ -30,7 +30,7 @@ use Rattle.wp_core.proofs.PendingSteps.{SoPending}
 use Rattle.wp_core.proofs.PublishesDecisions.{cache_part, decided_part, undecided_part, delayed_part}
 use Rattle.wp_core.proofs.PublishesHistory.{history_part, seen_grows, owned_part}
 use Rattle.wp_core.proofs.PublishesLocks.{locks_part, holders_part, board_part, faults_part}
-use Rattle.wp_core.proofs.PublishesNotes.{prepares_held, writes_unprepared, transaction_live, mine_grows, others_grow}
+use Rattle.wp_core.proofs.PublishesNotes.{prepares_held, writes_unprepared, prepares_locked, transaction_live, mine_grows, others_grow}
 use Rattle.wp_core.proofs.PublishesReaders.{registered_part, readers_part, judged_part}
 use Rattle.wp_core.proofs.PublishesVersions.{stored_part}
 use Rattle.wp_core.proofs.Quiet.{idle_after}
@@ -99,7 +99,8 @@ module _ (w : World) (by : ℕ) (a : Actor) (entry : Entry) (others : List Entry
         viewed = each_person_set view_of HasSeen w.actors by a b at (λ r h. let low = s.viewed by 0 (view_of a.participant) (mine view_of w.actors by a a at refl) r h in let more = shorter w.writes.history a.participant.seen (s.seen by 0 a.participant.seen (mine seen_of w.actors by a a at refl)) in let l = length-append w.writes.history (entry ∷ []) in omega (arith, low, more, l)) refl s.viewed;
       })
       (kept_part w by a b at (participants_of owner_of) (AreLocked w.opened grown w.locks) refl
-      (locks_part w.writes.history entry n.legal w.opened w.locks (participants owner_of w) (λ name of. transaction_live w by a entry others at n s name of) (λ name batch key is changed. prepares_held w by a entry others at n s name batch key is changed) (λ key name changed held. writes_unprepared w by a entry others at n s key name changed held) s.locks))
+      (locks_part w.writes.history entry n.legal w.opened w.locks (participants owner_of w) (λ name of. transaction_live w by a entry others at n s name of) (λ name batch key is changed. prepares_held w by a entry others at n s name batch key is changed) (λ key name changed held. writes_unprepared w by a entry others at n s key name changed held)
+      (shorter w.writes.history w.opened s.history.grown) (λ name batch key is held. prepares_locked w by a entry others at n s name batch key is held) s.locks))
       (pasts_kept w by a b at w.opened (with_entry w.writes entry others) w.locks w.first_edit w.installed refl (record {
         holders = holders_part w.writes.history entry n.legal w.opened w.locks (participants past_of w) s.holders;
         board = board_part w.writes.history entry n.legal w.locks (participants past_of w) s.board;

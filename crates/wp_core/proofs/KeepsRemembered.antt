@@ -1,5 +1,5 @@
 -- An actor that only remembers what it found keeps every part of a sound world.
-use Rattle.std.proofs.Common.{◌≡◌, ⊎_elim, inl, inr, ℕ, ◌≤◌, ◌<◌, true, false, List, [], ◌∷◌, ◌++◌, length, length-append, zero, suc, map, set, refl, sym, true≢false, subst, ap, ◌∙◌, arith, Option, Some, None, is_some, unwrap_or, take}
+use Rattle.std.proofs.Common.{◌≡◌, ◌⊎◌, ⊎_elim, inl, inr, ℕ, ◌≤◌, ◌<◌, true, false, List, [], ◌∷◌, ◌++◌, length, length-append, zero, suc, map, set, refl, sym, subst, ap, ◌∙◌, arith, Option, Some, None, is_some, take, true≢false, unwrap_or}
 use Rattle.std.proofs.Math.Seq.{take-length}
 use mathlib.Core.Option.{some, some-injective, some-ne-none}
 use lib.ListN.{get_elem?}
@@ -21,8 +21,8 @@ use Rattle.wp_core.specs.Needs.{Needs}
 use Rattle.wp_core.specs.Conditions.{Accounts, IsHolder, IsSelf}
 use Rattle.wp_core.specs.Notes.{forgets}
 use Rattle.wp_core.specs.Sound.Actors.{seen_of, participants_of, IsParticipantAt}
-use Rattle.wp_core.specs.Sound.Locks.{Owner, owner_of, Has, HasKeyAt, PrepareHas}
-use Rattle.wp_core.specs.Sound.Pasts.{past_of, IsPast, HasDone, HasBegun, MadeHolder, IsAccounted, NoneBetween, WasInstalled, WasBased, tables_due, OtherCompacts}
+use Rattle.wp_core.specs.Sound.Locks.{Owner, owner_of, Has, HasKeyAt, PrepareHas, WasLockedFor}
+use Rattle.wp_core.specs.Sound.Pasts.{past_of, IsPast, HasDone, HasBegun, MadeHolder, IsLockedFor, IsAccounted, WasInstalled, WasBased, tables_due, OtherCompacts, NoneBetween}
 use Rattle.wp_core.specs.Sound.Views.{noter_of}
 use Rattle.wp_core.specs.IsSound.{IsSound, participants}
 use Rattle.wp_core.proofs.Frames.{at_map}
@@ -140,16 +140,20 @@ begun_by w j i o name x s there has =
     let begun : HasBegun (participants past_of w) had.at had.place name = ⊎_elim (λ (k : IsIn (claimed name) had.owner.past). inl (had.owner.past, past, k)) (λ (k : IsIn (took name) had.owner.past). inr (had.owner.past, past, k)) had.began in
     subst (λ (n : ℕ). HasBegun (participants past_of w) n i name) (sym same.0) (subst (λ (n : ℕ). HasBegun (participants past_of w) had.at n name) (sym same.1) begun)
 
--- ... and locked each key that is held for it, or took it with a prepare that has the key; and one that has a direct write of the
--- key locked it
+-- what somebody locked is in somebody's past
+locked_past : (w : World) (name key : List ℕ) → WasLockedFor (participants owner_of w) name key → IsPast (participants past_of w) (locked key (Txn name))
+locked_past w name key k = (k.at, k.place, (k.owner.past, past_there w.actors k.at k.place k.owner k.there, k.began))
+
+-- ... and locked each key that is held for it, or took it with a prepare that has the key or while somebody had locked it; and one
+-- that has a direct write of the key locked it
 self_made : (w : World) (j i : ℕ) (o : Owner) (key : Option (List ℕ)) (holder : Holder) → IsSound w → IsHolder w key holder → IsParticipantAt (participants owner_of w) j i o → IsSelf o key holder → MadeHolder w.opened w.writes.history (participants past_of w) j i key holder
 self_made w j i o None (Txn name) s held there is = begun_by w j i o name is.0 s there is.1
 self_made w j i o (Some key) (Txn name) s held there is =
     let past = past_there w.actors j i o there in
     ⊎_elim
     (λ (k : IsIn (locked key (Txn name)) o.past). inl (begun_by w j i o name is.0 s there is.1, (o.past, past, k)))
-    (λ (k : IsIn (took name) o.past × PrepareHas w.opened w.writes.history name key). inr ((o.past, past, k.0), k.1))
-    ((s.locks.had j i o there).came name is.0 key is.1 (s.locks.keys_known key name held j i o there is.0 is.1))
+    (λ (k : IsIn (took name) o.past × (PrepareHas w.opened w.writes.history name key ⊎ WasLockedFor (participants owner_of w) name key)). inr ((o.past, past, k.0), ⊎_elim (λ has. inl has) (λ was. inr (locked_past w name key was)) k.1))
+    (s.locks.came j i o there name is.0 key is.1 (s.locks.keys_known key name held j i o there is.0 is.1))
 self_made w j i o (Some key) (Client client) s held there is =
     let its = (s.locks.had j i o there).direct key is.1 in
     let had = s.locks.keys_direct key o.client its in
@@ -160,10 +164,12 @@ self_made w j i o (Some key) (Client client) s held there is =
     (subst (λ (n : ℕ). HasDone (participants past_of w) had.at n e) (sym same.1) (had.owner.past, past_there w.actors had.at had.place had.owner had.there, there_too))
 self_made w j i o None (Client client) s held there is = absurd is
 
--- a key of a name that nobody has is the undecided prepare's
-left_key : (w : World) (key : Option (List ℕ)) (name : List ℕ) (p : ℕ) → finite.get w.locks.names name ≡ Some None → named w.writes.history name ≡ Some p → IsHolder w key (Txn name) → IsSound w → HasKeyAt w.writes.history p key
-left_key w None name p left is held s = tt
-left_key w (Some key) name p left is held s = ap (λ (o : Option ℕ). is_changed (batch_at w.writes.history (unwrap_or o 0)) key) (sym is) ∙ s.locks.keys_left key name left held
+-- a key of a name that nobody has is the undecided prepare's, or somebody locked it, and the prepare came behind the opening
+left_key : (w : World) (key : Option (List ℕ)) (name : List ℕ) (p : ℕ) → named w.writes.history name ≡ Some p → IsHolder w key (Txn name) → IsSound w → HasKeyAt w.writes.history p key ⊎ ((length w.opened < p) × IsLockedFor (participants past_of w) name key)
+left_key w None name p is held s = inl tt
+left_key w (Some key) name p is held s = ⊎_elim
+    (λ (changed : is_changed (batch_at w.writes.history p) key ≡ true). inl changed)
+    (λ (was : (length w.opened < p) × WasLockedFor (participants owner_of w) name key). inr (was.0, locked_past w name key was.1)) (s.locks.beyond key name p is held)
 
 accounts : (w : World) (by : ℕ) (a : Actor) (key : Option (List ℕ)) (holder : Holder) (account : Account) → get_elem? w.actors by ≡ some a → IsHolder w key holder → IsSound w → Accounts w by a key holder account → IsAccounted w.opened w.writes.history (participants past_of w) by 0 key holder (length a.participant.seen) account
 accounts w by a key holder own at is s k = self_made w by 0 (owner_of a.participant) key holder s is (mine owner_of w.actors by a a at refl) k
@@ -172,11 +178,14 @@ accounts w by a key (Txn name) (prepare_at n) at is s k =
     let seen = s.seen by 0 a.participant.seen (mine seen_of w.actors by a a at refl) in
     let few : length a.participant.seen ≤ length w.writes.history = rw seen.1 (rw (length-append a.participant.seen seen.0) (omega arith)) in
     let whole : take n w.writes.history ≡ w.writes.history = ap (λ (m : ℕ). take m w.writes.history) k.0 ∙ take-length w.writes.history in
-    let p = some_there (named w.writes.history name) (s.locks.names_left name k.1) in (
-      subst (λ (m : ℕ). length a.participant.seen ≤ m) (sym k.0) few,
-      subst (λ (m : ℕ). m ≤ length w.writes.history) (sym k.0) (omega arith),
-      subst (λ (h : List Entry). (q : ℕ) × (named h name ≡ Some q) × HasKeyAt h q key) (sym whole) (p.0, p.1, left_key w key name p.0 k.1 p.1 is s),
-    )
+    let p = some_there (named w.writes.history name) (s.locks.names_left name k.1) in
+    let from = subst (λ (m : ℕ). length a.participant.seen ≤ m) (sym k.0) few in
+    let within = subst (λ (m : ℕ). m ≤ length w.writes.history) (sym k.0) (omega arith) in
+    ⊎_elim
+    (λ (has : HasKeyAt w.writes.history p.0 key). inl (from, within, subst (λ (h : List Entry). (q : ℕ) × (named h name ≡ Some q) × HasKeyAt h q key) (sym whole) (p.0, p.1, has)))
+    (λ (locks : (length w.opened < p.0) × IsLockedFor (participants past_of w) name key).
+    inr ((from, within, subst (λ (h : List Entry). (q : ℕ) × (length w.opened < q) × (named h name ≡ Some q)) (sym whole) (p.0, locks.0, p.1)), locks.1))
+    (left_key w key name p.0 p.1 is s)
 accounts w by a key (Client client) (prepare_at n) at is s k = absurd k
 
 pub finds_holder : (w : World) (by : ℕ) (a : Actor) (key : Option (List ℕ)) (holder : Holder) (account : Account) → get_elem? w.actors by ≡ some a → Needs w by a (find_holder key holder account) → IsSound w

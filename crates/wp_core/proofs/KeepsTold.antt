@@ -89,7 +89,7 @@ module _ (w : World) (by : ℕ) (a : Actor) (label : List ℕ) (at : get_elem? w
   locked_part : AreLocked w.opened w.writes.history t (map (participants_of owner_of) (actors_after w by a (tell label) p t))
   locked_part =
       let k = past_locked w.actors by a b e at refl refl w.opened w.writes.history w.locks s.locks in
-      record { prepared_names = k.prepared_names; prepared_keys = k.prepared_keys; had = λ j i o there. let c = k.had j i o there in record { names = c.names; keys = c.keys; direct = c.direct; came = c.came }; apart = k.apart; names_had = k.names_had; names_left = k.names_left; keys_left = k.keys_left; keys_live = k.keys_live; keys_known = k.keys_known; keys_direct = k.keys_direct; unchanged = k.unchanged }
+      record { prepared_names = k.prepared_names; prepared_keys = k.prepared_keys; had = λ j i o there. let c = k.had j i o there in record { names = c.names; keys = c.keys; direct = c.direct }; came = k.came; apart = k.apart; names_had = k.names_had; names_left = k.names_left; keys_live = k.keys_live; keys_known = k.keys_known; keys_direct = k.keys_direct; unchanged = k.unchanged; beyond = k.beyond }
 
   parts : LocksParts w by a (tell label) p t
   parts = record {

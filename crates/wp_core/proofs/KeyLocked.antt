@@ -3,7 +3,6 @@ use Rattle.std.proofs.Common.{◌≡◌, ◌⊎◌, inl, inr, ℕ, List, [], ◌
 use mathlib.Core.Option.{some}
 use lib.ListN.{get_elem?}
 use Rattle.std.specs.FinMap as finite
-use Rattle.wp_model.specs.declared.entry.Entry.{Entry}
 use Rattle.wp_model.specs.declared.holder.Holder.{Holder}
 use Rattle.wp_model.specs.declared.holder.Holder.TheVariants.{Txn, Client}
 use Rattle.wp_model.specs.History.{named}
@@ -31,8 +30,8 @@ module _ (w : World) (key : List ℕ) (holder : Holder) (free : finite.get w.loc
   pub held_now : (k : List ℕ) (h : Holder) → finite.get t.keys k ≡ Some h → ((k ≡ key) × (holder ≡ h)) ⊎ ((k ≡ key → ⊥) × (finite.get w.locks.keys k ≡ Some h))
   held_now k h is = now_inserted w.locks.keys key holder h k is
 
-  pub owner_locked : (opened history : List Entry) (o : Owner) → IsOwner opened history w.locks o → IsOwner opened history t o
-  owner_locked opened history o k = record { names = k.names; keys = λ n x c h is. held_still c (Txn n) (k.keys n x c h is); direct = λ c h. held_still c (Client o.client) (k.direct c h); came = k.came }
+  pub owner_locked : (o : Owner) → IsOwner w.locks o → IsOwner t o
+  owner_locked o k = record { names = k.names; keys = λ n x c h is. held_still c (Txn n) (k.keys n x c h is); direct = λ c h. held_still c (Client o.client) (k.direct c h) }
 
   -- the holder is no prepared transaction
   module _ (other : (n : List ℕ) (m : ℕ) → named w.writes.history n ≡ Some m → holder ≡ Txn n → ⊥) where

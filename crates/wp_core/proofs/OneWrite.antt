@@ -229,6 +229,7 @@ module _ (batch : List Change) (is : is_batch batch ≡ true) (s : HasKeys batch
     versions = λ key value e. at_under 1 batch key 1 ∙ e;
     keys = λ key changed. inr ([], s.transaction, s.has, s.keys key changed, refl);
     transaction = λ name e. let q : None ≡ Some name = e in absurd (cc);
+    came = λ name other t key e. absurd cc;
     number = λ e. absurd e;
     pair = λ pair e. let q : first_pair ≡ pair = ap (λ o. unwrap_or o first_pair) e in subst (λ (x : CommitPair). IsEntered (first_word ∷ []) empty_world.prepared.delayed_commits empty_world.max_evicted x) q (inl refl);
   }

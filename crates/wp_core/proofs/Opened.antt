@@ -1,5 +1,5 @@
 -- Each opening is sound.
-use Rattle.std.proofs.Common.{◌≡◌, inl, inr, ℕ, zero, suc, ◌<◌, ◌≤◌, ◌||◌, eqb, eq-eqb, Bool, true, false, true≢false, List, [], ◌∷◌, ◌++◌, length, refl, sym, subst, ap, ◌∙◌, Option, Some, None, is_some, unwrap_or, slice_index, ⊎_elim, append-nil, arith}
+use Rattle.std.proofs.Common.{◌≡◌, inl, inr, ℕ, zero, suc, ◌<◌, ◌≤◌, ◌||◌, eqb, eq-eqb, Bool, true, false, true≢false, List, [], ◌∷◌, ◌++◌, length, refl, sym, subst, ap, ◌∙◌, Option, Some, None, is_some, slice_index, ⊎_elim, append-nil, arith}
 use Rattle.std.specs.Prelude.{All}
 use Rattle.std.specs.List.{list_any}
 use Rattle.std.proofs.lemmas.Bool.Decides.{nat_tests}
@@ -25,7 +25,6 @@ use Rattle.wp_model.proofs.Found.{found_holder, found_named}
 use Rattle.wp_history_laws.proofs.Unchanged.{held_unchanged}
 use Rattle.wp_core.specs.Lists.{IsIn}
 use Rattle.wp_core.specs.Turns.{Turn, write_turn, prepared_turn, snapshots_turn, store_turn, locks_turn, tables_turn, Holds, all_free}
-use Rattle.wp_core.specs.Entries.{batch_of_name}
 use Rattle.wp_core.specs.States.{StoreState, Installed}
 use Rattle.wp_model.specs.Flushed.{InstalledEdit}
 use Rattle.wp_core.specs.Reading.{Registration}
@@ -43,7 +42,7 @@ use Rattle.wp_core.specs.Cache.{pair_at}
 use Rattle.wp_judge.proofs.Packing.{word_back}
 use Rattle.wp_core.proofs.HistoryLaws.{decision_within, undecided_not_decided}
 use Rattle.wp_core.proofs.OneHolder.{holder_is, name_is, found_name}
-use Rattle.wp_model.proofs.Tests.{none_some}
+use Rattle.wp_model.proofs.Tests.{none_some, same_some}
 use Rattle.wp_model.proofs.Keyed.{txn_is}
 use Rattle.wp_core.proofs.PendingSteps.{none_logged}
 
@@ -167,12 +166,12 @@ module _ (opened : List Entry) (cache : List ℕ) (flag : ℕ) (logged : Bool) (
       subst (λ (n : List ℕ). is_some (finite.get t.names n) ≡ true) k.2 (is_live k.0 h.0)
 
   -- a key that is held is the undecided prepare's of that name
-  key_changed : (key name : List ℕ) → finite.get t.keys key ≡ Some (Txn name) → is_changed (batch_of_name opened name) key ≡ true
-  key_changed key name e =
+  key_changed : (key name : List ℕ) (p : ℕ) → named opened name ≡ Some p → finite.get t.keys key ≡ Some (Txn name) → is_changed (batch_at opened p) key ≡ true
+  key_changed key name p is e =
       let k = who_holds opened (holder_of opened key) name (sym (locks.keys key) ∙ e) in
       let h = found_holder opened key k.0 k.1 in
-      subst (λ (n : List ℕ). is_changed (batch_of_name opened n) key ≡ true) k.2
-      (ap (λ (o : Option ℕ). is_changed (batch_at opened (unwrap_or o 0)) key) (name_is opened legal k.0 h.0) ∙ h.1)
+      let same : k.0 ≡ p = same_some k.0 p (sym (name_is opened legal k.0 h.0) ∙ (ap (named opened) k.2 ∙ is)) in
+      subst (λ (q : ℕ). is_changed (batch_at opened q) key ≡ true) same h.1
 
   starts : StartsWith opened opened
   starts = ([], sym (append-nil opened))
@@ -226,19 +225,20 @@ module _ (opened : List Entry) (cache : List ℕ) (flag : ℕ) (logged : Bool) (
     locks = record {
       prepared_names = is_live;
       prepared_keys = λ p key u changed. locks.keys key ∙ ap (prepare_holding opened) (holder_is opened legal p key u changed);
-      had = λ j i o at. subst (IsOwner opened opened t) (one_participant (owner_of (new_participant client opened)) j i o at)
-          record { names = λ name x e. absurd (no_transaction name x e); keys = λ name x key e _. absurd (no_transaction name x e); direct = λ key e. let q : None ≡ Some key = e in absurd (cc); came = λ name x key e _. absurd (no_transaction name x e) };
+      had = λ j i o at. subst (IsOwner t) (one_participant (owner_of (new_participant client opened)) j i o at)
+          record { names = λ name x e. absurd (no_transaction name x e); keys = λ name x key e _. absurd (no_transaction name x e); direct = λ key e. let q : None ≡ Some key = e in absurd (cc) };
+      came = λ j i o at name x key has _. absurd (no_transaction name x (ap (λ (z : Owner). finite.get z.transactions name) (one_participant (owner_of (new_participant client opened)) j i o at) ∙ has));
       apart = record {
         names = λ j i k l o p name x y at _ e _. absurd (no_transaction name x (ap (λ (z : Owner). finite.get z.transactions name) (one_participant (owner_of (new_participant client opened)) j i o at) ∙ e));
         direct = λ j i k l o p key at _ e _. let q : None ≡ Some key = ap (λ (z : Owner). z.direct) (one_participant (owner_of (new_participant client opened)) j i o at) ∙ e in absurd (cc);
       };
       names_had = λ name c e. absurd (nobody_named (named opened name) c (sym (locks.names name) ∙ e));
       names_left = λ name e. was_named name (ap is_some e);
-      keys_left = λ key name left e. key_changed key name e;
       keys_live = key_live;
       keys_known = λ key name e j i o at x has. absurd (no_transaction name x (ap (λ (z : Owner). finite.get z.transactions name) (one_participant (owner_of (new_participant client opened)) j i o at) ∙ has));
       keys_direct = λ key c e. absurd (no_client_holds opened (holder_of opened key) c (sym (locks.keys key) ∙ e));
-      unchanged = λ key name p is e. held_unchanged opened key p legal (found_named opened name p is).0 (ap (λ (o : Option ℕ). is_changed (batch_at opened (unwrap_or o 0)) key) (sym is) ∙ key_changed key name e);
+      unchanged = λ key name p is e. held_unchanged opened key p legal (found_named opened name p is).0 (key_changed key name p is e);
+      beyond = λ key name p is e. inl (key_changed key name p is e);
     };
     holders = record {
       names = λ name live. inr (was_named name live);

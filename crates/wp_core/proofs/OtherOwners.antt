@@ -31,14 +31,13 @@ module _ (w : World) (by : ℕ) (a : Actor) (name : List ℕ) (x0 : Transaction)
       ⊎_elim (λ (ne : j ≢ by). ne same.0) (λ (ne : i ≢ 0). ne same.1) elsewhere
 
   module _ (t : LockState) (k : KeepsOthers w name t) where
-    pub others_own : (j i : ℕ) (o : Owner) → ((j ≢ by) ⊎ (i ≢ 0)) → IsParticipantAt (participants owner_of w) j i o → IsOwner w.opened w.writes.history t o
+    pub others_own : (j i : ℕ) (o : Owner) → ((j ≢ by) ⊎ (i ≢ 0)) → IsParticipantAt (participants owner_of w) j i o → IsOwner t o
     others_own j i o elsewhere there =
         let was = s.locks.had j i o there in
         record {
           names = λ n x h. k.names n (nobody_else j i o n x elsewhere there h) ∙ was.names n x h;
           keys = λ n x c h held. k.transactions c n (nobody_else j i o n x elsewhere there h) (was.keys n x c h held);
           direct = λ c h. k.directs c o.client (was.direct c h);
-          came = was.came;
         }
 
     pub others_so : (j : ℕ) (q : Participant) (fact : Fact) → j ≢ by → IsParticipantAt (participants owner_of w) j 0 (owner_of q) → SoIn w q fact → SoWith w t q fact

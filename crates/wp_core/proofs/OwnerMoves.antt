@@ -9,13 +9,20 @@ use Rattle.wp_core.specs.Lists.{IsIn}
 use Rattle.wp_core.specs.Views.{Event, claimed, took, locked}
 use Rattle.wp_core.specs.World.{Transaction, Actor}
 use Rattle.wp_core.specs.Sound.Actors.{participants_of, IsParticipantAt, EachParticipant}
-use Rattle.wp_core.specs.Sound.Locks.{Owner, owner_of, Has, Began, IsNameOf, IsDirectOf, CameToKey, AreApart}
-use Rattle.wp_core.proofs.AllParticipants.{still, at_after, who_was, still_apart}
+use Rattle.wp_core.specs.Sound.Locks.{Owner, owner_of, Has, Began, IsNameOf, IsDirectOf, WasLockedFor, CameToKey, CameToKeys, HasOrLocked, AreApart}
+use Rattle.wp_core.proofs.AllParticipants.{still, at_after, who_was, each_apart, still_apart}
 
 -- how one came to a key stays so as its past grows
-pub came_still : (opened history : List Entry) (past more : List Event) → ((e : Event) → IsIn e past → IsIn e more) → (name key : List ℕ) → CameToKey opened history past name key → CameToKey opened history more name key
-came_still opened history past more grew name key (inl k) = inl (grew (locked key (Txn name)) k)
-came_still opened history past more grew name key (inr (k, has)) = inr (grew (took name) k, has)
+pub came_still : (opened history : List Entry) (owners others : List (List Owner)) (past more : List Event) → ((e : Event) → IsIn e past → IsIn e more) → (name key : List ℕ) → (WasLockedFor owners name key → WasLockedFor others name key)
+    → CameToKey opened history owners past name key → CameToKey opened history others more name key
+came_still opened history owners others past more grew name key still (inl k) = inl (grew (locked key (Txn name)) k)
+came_still opened history owners others past more grew name key still (inr (k, inl has)) = inr (grew (took name) k, inl has)
+came_still opened history owners others past more grew name key still (inr (k, inr was)) = inr (grew (took name) k, inr (still was))
+
+-- so does what a prepare has or somebody locked
+pub beyond_still : (opened history : List Entry) (owners others : List (List Owner)) (p : ℕ) (name key : List ℕ) → (WasLockedFor owners name key → WasLockedFor others name key) → HasOrLocked opened history owners p name key → HasOrLocked opened history others p name key
+beyond_still opened history owners others p name key still (inl has) = inl has
+beyond_still opened history owners others p name key still (inr (low, was)) = inr (low, still was)
 
 module _ (xs : List Actor) (by : ℕ) (a b : Actor) (at : get_elem? xs by ≡ some a) (same : b.joined ≡ a.joined) where
   abbrev before : List (List Owner)
@@ -42,6 +49,32 @@ module _ (xs : List Actor) (by : ℕ) (a b : Actor) (at : get_elem? xs by ≡ so
   key_known had key n k j i o there x has =
       let u = who_was owner_of xs by a b at same (λ c d. (v : List ℕ) (z : Transaction) → Has c v z → Has d v z) (λ c v z h. h) had j i o there in
       k j i u.0 u.1 x (u.2 n x has)
+
+  module _ (past : (e : Event) → IsIn e a.participant.past → IsIn e b.participant.past) where
+    pub locked_for_still : (name key : List ℕ) → WasLockedFor before name key → WasLockedFor after name key
+    locked_for_still name key k = ⊎_elim
+        (λ (g : (k.at ≡ by) × (k.place ≡ 0) × (k.owner ≡ owner_of a.participant)). record {
+          at = k.at;
+          place = k.place;
+          owner = owner_of b.participant;
+          there = at_after owner_of xs by a b at same k.at k.place g.0 g.1;
+          began = past (locked key (Txn name)) (subst (λ (z : Owner). IsIn (locked key (Txn name)) z.past) g.2 k.began);
+        })
+        (λ (g : IsParticipantAt after k.at k.place k.owner). record { at = k.at; place = k.place; owner = k.owner; there = g; began = k.began })
+        (still owner_of xs by a b at same k.at k.place k.owner k.there)
+
+    -- each came to its keys, where the changed one came to its own
+    pub came_apart : (opened history : List Entry) → CameToKeys opened history after (owner_of b.participant) → EachParticipant (CameToKeys opened history before) before → EachParticipant (CameToKeys opened history after) after
+    came_apart opened history its k =
+        each_apart owner_of xs by a b at same (CameToKeys opened history after) its
+        (λ j i o elsewhere there name x key has held. came_still opened history before after o.past o.past (λ e h. h) name key (λ was. locked_for_still name key was) (k j i o there name x key has held))
+
+    -- what the changed one had come to it came to
+    pub came_itself : (opened history : List Entry) (name key : List ℕ) → CameToKey opened history before a.participant.past name key → CameToKey opened history after b.participant.past name key
+    came_itself opened history name key k = came_still opened history before after a.participant.past b.participant.past past name key (λ was. locked_for_still name key was) k
+
+    pub beyond_moved : (opened history : List Entry) (p : ℕ) (name key : List ℕ) → HasOrLocked opened history before p name key → HasOrLocked opened history after p name key
+    beyond_moved opened history p name key k = beyond_still opened history before after p name key (λ was. locked_for_still name key was) k
 
   module _ (client : b.participant.client ≡ a.participant.client) (past : (e : Event) → IsIn e a.participant.past → IsIn e b.participant.past) where
     began_still : (n : List ℕ) → Began a.participant.past n → Began b.participant.past n

@@ -11,9 +11,9 @@ use Rattle.wp_core.specs.Lists.{IsIn}
 use Rattle.wp_core.specs.Views.{Event}
 use Rattle.wp_core.specs.World.{Transaction, Actor}
 use Rattle.wp_core.specs.Sound.Actors.{participants_of, IsParticipantAt, EachParticipant}
-use Rattle.wp_core.specs.Sound.Locks.{Owner, owner_of, Has, IsOwner, AreLocked}
+use Rattle.wp_core.specs.Sound.Locks.{Owner, owner_of, Has, IsOwner, CameToKeys, AreLocked}
 use Rattle.wp_core.proofs.PastsGrow.{in_front}
-use Rattle.wp_core.proofs.OwnerMoves.{owners_apart, came_still, name_kept, direct_kept}
+use Rattle.wp_core.proofs.OwnerMoves.{owners_apart, came_still, locked_for_still, beyond_moved, name_kept, direct_kept}
 use Rattle.wp_core.proofs.AllParticipants.{who_was}
 
 -- the same of names and keys, and a past that grew
@@ -38,16 +38,20 @@ module _ (xs : List Actor) (by : ℕ) (a b : Actor) (at : get_elem? xs by ≡ so
   abbrev after : List (List Owner)
   after = map (participants_of owner_of) (set xs by b)
 
-  owner_still : (opened history : List Entry) (t : LockState) (o p : Owner) → IsSameOwner o p → IsOwner opened history t o → IsOwner opened history t p
-  owner_still opened history t o p q k = record {
+  owner_still : (t : LockState) (o p : Owner) → IsSameOwner o p → IsOwner t o → IsOwner t p
+  owner_still t o p q k = record {
     names = λ name x h. let u = q.had name x h in k.names name u.0 u.1 ∙ ap (λ (c : List ℕ). Some (Some c)) (sym q.client);
     keys = λ name x key h held. let u = q.had name x h in k.keys name u.0 key u.1 (subst (λ (z : set_of.FinSet key_cmp). set_of.contains z key ≡ true) (sym u.2) held);
     direct = λ key h. k.direct key (sym q.direct ∙ h) ∙ ap (λ (c : List ℕ). Some (Client c)) (sym q.client);
-    came = λ name x key h held. let u = q.had name x h in came_still opened history o.past p.past q.past name key (k.came name u.0 key u.1 (subst (λ (z : set_of.FinSet key_cmp). set_of.contains z key ≡ true) (sym u.2) held));
   }
 
   was_there : (j i : ℕ) (p : Owner) → IsParticipantAt after j i p → (o : Owner) × IsParticipantAt before j i o × IsSameOwner o p
   was_there j i p there = who_was owner_of xs by a b at same (λ q o. IsSameOwner o q) same_owner is j i p there
+
+  came_all : (opened history : List Entry) → EachParticipant (CameToKeys opened history before) before → EachParticipant (CameToKeys opened history after) after
+  came_all opened history k j i p there name x key h held =
+      let o = was_there j i p there in let u = o.2.had name x h in
+      came_still opened history before after o.0.past p.past o.2.past name key (λ was. locked_for_still xs by a b at same is.past name key was) (k j i o.0 o.1 name u.0 key u.1 (subst (λ (z : set_of.FinSet key_cmp). set_of.contains z key ≡ true) (sym u.2) held))
 
   -- a held key that each had under its transaction
   known_still : (key name : List ℕ) → EachParticipant (λ o. (x : Transaction) → Has o name x → set_of.contains x.locked key ≡ true) before → EachParticipant (λ o. (x : Transaction) → Has o name x → set_of.contains x.locked key ≡ true) after
@@ -59,15 +63,16 @@ module _ (xs : List Actor) (by : ℕ) (a b : Actor) (at : get_elem? xs by ≡ so
   locked_still opened history t k = record {
     prepared_names = k.prepared_names;
     prepared_keys = k.prepared_keys;
-    had = λ j i p there. let o = was_there j i p there in owner_still opened history t o.0 p o.2 (k.had j i o.0 o.1);
+    had = λ j i p there. let o = was_there j i p there in owner_still t o.0 p o.2 (k.had j i o.0 o.1);
+    came = came_all opened history k.came;
     apart = owners_apart xs by a b at same (λ name x h. let y = is.had name x h in inl (y.0, y.1)) (λ key h. inl (sym is.direct ∙ h)) k.apart;
     names_had = λ name client h. name_kept xs by a b at same is.client is.past name client (λ y q. let x = is.has name y q in (x.0, x.1)) (k.names_had name client h);
     names_left = k.names_left;
-    keys_left = k.keys_left;
     keys_live = k.keys_live;
     keys_known = λ key name h. known_still key name (k.keys_known key name h);
     keys_direct = λ key client h. direct_kept xs by a b at same is.client is.past key client (λ q. is.direct ∙ q) (k.keys_direct key client h);
     unchanged = k.unchanged;
+    beyond = λ key name p q h. beyond_moved xs by a b at same is.past opened history p name key (k.beyond key name p q h);
   }
 
 -- one that has the same of names and keys remembers one event more

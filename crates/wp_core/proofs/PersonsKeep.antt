@@ -20,8 +20,9 @@ use Rattle.wp_core.specs.Views.{Account, own, another, prepare_at, Event, claime
 use Rattle.wp_core.specs.World.{Actor, Participant, Transaction}
 use Rattle.wp_core.specs.Sound.Actors.{participants_of, IsParticipantAt, StartsWith, seen_of, own_of, times, AreSeen, AreOwned, EachParticipant}
 use Rattle.wp_core.specs.Sound.Snapshots.{registered_of, AreBelowCommitted, AreRegistered, view_of, HasSeen}
-use Rattle.wp_core.specs.Sound.Locks.{Owner, owner_of, Has, IsOwner, AreLocked}
+use Rattle.wp_core.specs.Sound.Locks.{Owner, owner_of, Has, WasLockedFor, IsOwner, AreLocked}
 use Rattle.wp_core.specs.Sound.Pasts.{past_of, HasDone, IsPast, HasBegun, MadeHolder, IsAccounted, WasLocked, AreHolders, IsBoard, closes_log, is_tables_fault, AreFaults, is_install, raised_to, WasInstalled, WasPlaced, WasBased, due_after, tables_due, last_after, last_installed, OtherDid, OtherInstalls, OtherCompacts, AreEdits}
+use Rattle.wp_core.proofs.OwnerMoves.{came_still, beyond_still}
 use Rattle.wp_core.proofs.PastsGrow.{at_place}
 use Rattle.wp_core.proofs.Persons.{IsNone, Moves, same_there, apart_still, CameWith, IsOfNone, came_from, goes_to, total_same}
 
@@ -38,12 +39,11 @@ none_has p name x none h =
 none_direct : (p : Participant) (key : List ℕ) → IsNone p → p.direct ≡ Some key → ⊥
 none_direct p key none h = let q : None ≡ Some key = sym (ap (λ (z : Participant). z.direct) none) ∙ h in absurd (cc)
 
-none_owner : (opened history : List Entry) (t : LockState) (p : Participant) → IsNone p → IsOwner opened history t (owner_of p)
-none_owner opened history t p none = record {
+none_owner : (t : LockState) (p : Participant) → IsNone p → IsOwner t (owner_of p)
+none_owner t p none = record {
   names = λ name x h. absurd (none_has p name x none h);
   keys = λ name x key h held. absurd (none_has p name x none h);
   direct = λ key h. absurd (none_direct p key none h);
-  came = λ name x key h held. absurd (none_has p name x none h);
 }
 
 -- ---- the tables that are due
@@ -139,14 +139,23 @@ module _ (row place : ℕ → ℕ → ℕ) (history : List Entry) (xs ys : List 
   both_places j i k l o p c d same =
       (sym c.row_is ∙ ((λ u. row (same.0 u) (same.1 u)) ∙ d.row_is), sym c.place_is ∙ ((λ u. place (same.0 u) (same.1 u)) ∙ d.place_is))
 
+  locked_for_moved : (name key : List ℕ) → WasLockedFor (owners xs) name key → WasLockedFor (owners ys) name key
+  locked_for_moved name key o = ⊎_elim
+      (λ (c : IsParticipantAt (owners ys) (row o.at o.place) (place o.at o.place) o.owner). record { at = row o.at o.place; place = place o.at o.place; owner = o.owner; there = c; began = o.began })
+      (λ (n : IsOfNone row place history xs ys m owner_of o.owner). absurd (subst (IsIn (locked key (Txn name))) (ap (λ (z : Owner). z.past) (sym n.has) ∙ no_past n.person n.none) o.began))
+      (goes_to row place history xs ys m owner_of o.at o.place o.owner o.there)
+
   pub locked_moved : (opened : List Entry) (t : LockState) → AreLocked opened history t (owners xs) → AreLocked opened history t (owners ys)
   locked_moved opened t k = record {
     prepared_names = k.prepared_names;
     prepared_keys = k.prepared_keys;
     had = λ j i o there. ⊎_elim
         (λ (c : CameOwner j i o). k.had c.at c.at_place o c.there)
-        (λ (n : NoneOwner o). subst (IsOwner opened history t) n.0.has (none_owner opened history t n.0.person n.0.none))
+        (λ (n : NoneOwner o). subst (IsOwner t) n.0.has (none_owner t n.0.person n.0.none))
         (came_from row place history xs ys m owner_of j i o there);
+    came = λ j i o there name x key has held.
+        let c = who_has j i o name x there has in
+        came_still opened history (owners xs) (owners ys) o.past o.past (λ e h. h) name key (λ was. locked_for_moved name key was) (k.came c.at c.at_place o c.there name x key has held);
     apart = record {
       names = λ j i l n o p name x y here there first second.
           let c = who_has j i o name x here first in let d = who_has l n p name y there second in
@@ -162,7 +171,6 @@ module _ (row place : ℕ → ℕ → ℕ) (history : List Entry) (xs ys : List 
         (λ (n : IsOfNone row place history xs ys m owner_of o.owner). absurd (not_none o.owner name o.transaction n o.has))
         (goes_to row place history xs ys m owner_of o.at o.place o.owner o.there);
     names_left = k.names_left;
-    keys_left = k.keys_left;
     keys_live = k.keys_live;
     keys_known = λ key name h j i o there x has. let c = who_has j i o name x there has in k.keys_known key name h c.at c.at_place o c.there x has;
     keys_direct = λ key client h.
@@ -172,6 +180,7 @@ module _ (row place : ℕ → ℕ → ℕ) (history : List Entry) (xs ys : List 
         (λ (n : IsOfNone row place history xs ys m owner_of o.owner). absurd (not_direct o.owner key n o.has))
         (goes_to row place history xs ys m owner_of o.at o.place o.owner o.there);
     unchanged = k.unchanged;
+    beyond = λ key name p is h. beyond_still opened history (owners xs) (owners ys) p name key (λ was. locked_for_moved name key was) (k.beyond key name p is h);
   }
 
   -- ---- pasts
@@ -215,14 +224,17 @@ module _ (row place : ℕ → ℕ → ℕ) (history : List Entry) (xs ys : List 
   made_moved : (opened : List Entry) (j i : ℕ) (key : Option (List ℕ)) (holder : Holder) → MadeHolder opened history (pasts xs) j i key holder → MadeHolder opened history (pasts ys) (row j i) (place j i) key holder
   made_moved opened j i None (Txn name) k = begun_moved j i name k
   made_moved opened j i (Some key) (Txn name) (inl (begun, k)) = inl (begun_moved j i name begun, done_moved j i (locked key (Txn name)) k)
-  made_moved opened j i (Some key) (Txn name) (inr (k, has)) = inr (done_moved j i (took name) k, has)
+  made_moved opened j i (Some key) (Txn name) (inr (k, inl has)) = inr (done_moved j i (took name) k, inl has)
+  made_moved opened j i (Some key) (Txn name) (inr (k, inr was)) = inr (done_moved j i (took name) k, inr (past_moved (locked key (Txn name)) was))
   made_moved opened j i (Some key) (Client client) k = done_moved j i (locked key (Client client)) k
   made_moved opened j i None (Client client) none = absurd none
 
   accounted_moved : (opened : List Entry) (j i : ℕ) (key : Option (List ℕ)) (holder : Holder) (seen : ℕ) (account : Account) → IsAccounted opened history (pasts xs) j i key holder seen account → IsAccounted opened history (pasts ys) (row j i) (place j i) key holder seen account
   accounted_moved opened j i key holder seen own k = made_moved opened j i key holder k
   accounted_moved opened j i key holder seen another (l, n, apart, k) = (row l n, place l n, apart_still row place history xs ys m j i l n apart, made_moved opened l n key holder k)
-  accounted_moved opened j i key (Txn name) seen (prepare_at n) k = k
+  accounted_moved opened j i key (Txn name) seen (prepare_at n) (inl k) = inl k
+  accounted_moved opened j i None (Txn name) seen (prepare_at n) (inr k) = absurd k.1
+  accounted_moved opened j i (Some key) (Txn name) seen (prepare_at n) (inr k) = inr (k.0, past_moved (locked key (Txn name)) k.1)
   accounted_moved opened j i key (Client name) seen (prepare_at n) k = k
 
   key_moved : (opened : List Entry) (key : List ℕ) (holder : Holder) → WasLocked opened (pasts xs) key holder → WasLocked opened (pasts ys) key holder

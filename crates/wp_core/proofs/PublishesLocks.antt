@@ -1,5 +1,5 @@
 -- The pending entry joins the history: names and keys, holders, the board, and faults.
-use Rattle.std.proofs.Common.{◌≡◌, ⊎_elim, inl, inr, ℕ, suc, ◌≤◌, Bool, true, false, true≢false, List, [], ◌∷◌, ◌++◌, length, length-append, refl, sym, subst, ap, ◌∙◌, Option, Some, None, arith}
+use Rattle.std.proofs.Common.{◌≡◌, ⊎_elim, inl, inr, ℕ, suc, ◌≤◌, ◌<◌, Bool, true, false, true≢false, List, [], ◌∷◌, ◌++◌, length, refl, sym, subst, ap, ◌∙◌, Option, Some, None, arith, length-append}
 use Rattle.std.specs.Prelude.{is_some, unwrap_or}
 use Rattle.std.proofs.lemmas.Bool.{eq-eqb, false_from_ne_true}
 use Rattle.std.proofs.lemmas.List.{take-append-le}
@@ -14,14 +14,13 @@ use Rattle.wp_model.specs.History.{is_prepare, prepared_name, prepared_batch, na
 use Rattle.wp_model.specs.Legal.{IsLegal, IsLegalNext}
 use Rattle.wp_model.specs.LockState.{LockState}
 use Rattle.wp_model.proofs.Found.{found_named}
-use Rattle.wp_model.proofs.Entries.{undecided_within}
 use Rattle.wp_history_laws.proofs.Unchanged.{unchanged_grows, unchanged_at_end}
 use Rattle.wp_core.specs.Entries.{transaction_of, written}
 use Rattle.wp_core.specs.States.{WriteState}
 use Rattle.wp_core.specs.Views.{Account, own, another, prepare_at, Event}
 use Rattle.wp_core.specs.Effects.{with_entry}
-use Rattle.wp_core.specs.Sound.Locks.{Owner, HasKeyAt, WasPrepared, PrepareHas, CameToKey, AreLocked}
-use Rattle.wp_core.specs.Sound.Pasts.{MadeHolder, IsAccounted, AreHolders, IsBoard, AreFaults}
+use Rattle.wp_core.specs.Sound.Locks.{Owner, HasKeyAt, WasPrepared, PrepareHas, WasLockedFor, CameToKey, HasOrLocked, AreLocked}
+use Rattle.wp_core.specs.Sound.Pasts.{MadeHolder, IsAccounted, AreHolders, IsBoard, AreFaults, WasPreparedBehind}
 use Rattle.wp_core.proofs.HistoryLaws.{is_equal}
 use Rattle.wp_core.proofs.HistoryGrows.{before, after, at_next, grown_length, named_stays, name_at_old, batch_at_grown, undecided_before_or_now}
 use Rattle.wp_core.proofs.OneHolder.{name_is}
@@ -112,18 +111,29 @@ module _ (history : List Entry) (entry : Entry) (legal : IsLegal (history ++ ent
       let low = k.1 in let l = grown_length history entry legal in
       (k.0, omega (arith, low, l), subst (λ (h : List Entry). (p : ℕ) × (named h name ≡ Some p) × HasKeyAt h p key) (sym (take-append-le n history (entry ∷ []) low)) k.2)
 
+  behind_grows : (opened : List Entry) (from n : ℕ) (name : List ℕ) → WasPreparedBehind opened history from n name → WasPreparedBehind opened grown from n name
+  behind_grows opened from n name k =
+      let low = k.1 in let l = grown_length history entry legal in
+      (k.0, omega (arith, low, l), subst (λ (h : List Entry). (p : ℕ) × (length opened < p) × (named h name ≡ Some p)) (sym (take-append-le n history (entry ∷ []) low)) k.2)
+
   prepare_grows : (opened : List Entry) (name key : List ℕ) → PrepareHas opened history name key → PrepareHas opened grown name key
   prepare_grows opened name key (n, was) = (n, was_grows (length opened) n name (Some key) was)
 
-  came_grows : (opened : List Entry) (past : List Event) (name key : List ℕ) → CameToKey opened history past name key → CameToKey opened grown past name key
-  came_grows opened past name key (inl k) = inl k
-  came_grows opened past name key (inr (k, has)) = inr (k, prepare_grows opened name key has)
+  came_grows : (opened : List Entry) (owners : List (List Owner)) (past : List Event) (name key : List ℕ) → CameToKey opened history owners past name key → CameToKey opened grown owners past name key
+  came_grows opened owners past name key (inl k) = inl k
+  came_grows opened owners past name key (inr (k, inl has)) = inr (k, inl (prepare_grows opened name key has))
+  came_grows opened owners past name key (inr (k, inr was)) = inr (k, inr was)
+
+  beyond_grows : (opened : List Entry) (owners : List (List Owner)) (p : ℕ) (name key : List ℕ) → p ≤ length history → HasOrLocked opened history owners p name key → HasOrLocked opened grown owners p name key
+  beyond_grows opened owners p name key low (inl has) = inl (ap (λ (z : List Change). is_changed z key) (batch_at_grown history entry legal p low) ∙ has)
+  beyond_grows opened owners p name key low (inr was) = inr was
 
   pub locks_part : (opened : List Entry) (t : LockState) (owners : List (List Owner)) → ((name : List ℕ) → transaction_of history entry ≡ Some name → (client : List ℕ) × (finite.get t.names name ≡ Some (Some client)))
       → ((name : List ℕ) (batch : List Change) (key : List ℕ) → entry ≡ Prepare name batch → is_changed batch key ≡ true → finite.get t.keys key ≡ Some (Txn name))
       → ((key name : List ℕ) → is_changed (written entry) key ≡ true → finite.get t.keys key ≡ Some (Txn name) → named history name ≡ None)
+      → length opened ≤ length history → ((name : List ℕ) (batch : List Change) (key : List ℕ) → entry ≡ Prepare name batch → finite.get t.keys key ≡ Some (Txn name) → WasLockedFor owners name key)
       → AreLocked opened history t owners → AreLocked opened grown t owners
-  locks_part opened t owners live held unprepared k = record {
+  locks_part opened t owners live held unprepared low came k = record {
     prepared_names = λ p u. ⊎_elim
         (λ o. ap (λ (x : List ℕ). is_some (finite.get t.names x)) (name_at_old history entry legal p o.0) ∙ k.prepared_names p o.1)
         (λ (o : (p ≡ next) × (is_prepare (Some entry) ≡ true)).
@@ -137,15 +147,11 @@ module _ (history : List Entry) (entry : Entry) (legal : IsLegal (history ++ ent
         let x = prepare_of entry o.1 in
         held x.name x.batch key x.is (ap (λ (z : List Change). is_changed z key) (sym (ap (batch_at grown) o.0 ∙ batch_new x.name x.batch x.is)) ∙ changed) ∙ ap (λ (z : List ℕ). Some (Txn z)) (sym (ap (name_at grown) o.0 ∙ name_new x.name x.batch x.is)))
         (undecided_before_or_now history entry legal p u);
-    had = λ j i o there. let c = k.had j i o there in record { names = c.names; keys = c.keys; direct = c.direct; came = λ name x key h held. came_grows opened o.past name key (c.came name x key h held) };
+    had = k.had;
+    came = λ j i o there name x key h held. came_grows opened owners o.past name key (k.came j i o there name x key h held);
     apart = k.apart;
     names_had = k.names_had;
     names_left = λ name e. ap is_some (still_left t live name e (k.names_left name e)).2;
-    keys_left = λ key name e held.
-        let x = still_left t live name e (k.names_left name e) in
-        let low = (undecided_within history x.0 (found_named history name x.0 x.1).0).1 in
-        ap (λ (o : Option ℕ). is_changed (batch_at grown (unwrap_or o 0)) key) x.2 ∙ ap (λ (z : List Change). is_changed z key) (batch_at_grown history entry legal x.0 low)
-        ∙ ap (λ (o : Option ℕ). is_changed (batch_at history (unwrap_or o 0)) key) (sym x.1) ∙ k.keys_left key name e held;
     keys_live = k.keys_live;
     keys_known = k.keys_known;
     keys_direct = k.keys_direct;
@@ -155,6 +161,16 @@ module _ (history : List Entry) (entry : Entry) (legal : IsLegal (history ++ ent
         unchanged_grows history entry (before history entry legal) (after history entry legal) key p (held_kept history entry t (before history entry legal) (after history entry legal) k.prepared_keys unprepared key name p was has o.2) (k.unchanged key name p was has))
         (λ (o : (p ≡ next) × (is_prepare (Some entry) ≡ true)). let e = o.0 in let l = grown_length history entry legal in unchanged_at_end grown key p (omega (arith, e, l)))
         (undecided_before_or_now history entry legal p (found_named grown name p is).0);
+    beyond = λ key name p is has.
+        let f = found_named grown name p is in
+        ⊎_elim
+        (λ (o : (p ≤ length history) × (is_undecided history p ≡ true) × (decides p entry ≡ false)). beyond_grows opened owners p name key o.0 (k.beyond key name p (named_was name p o.0 is) has))
+        (λ (o : (p ≡ next) × (is_prepare (Some entry) ≡ true)).
+        let x = prepare_of entry o.1 in
+        let same : x.name ≡ name = sym (ap (name_at grown) o.0 ∙ name_new x.name x.batch x.is) ∙ (bytes_eq-Decides (name_at grown p) name).0 f.1 in
+        let e = o.0 in
+        inr (omega (arith, e, low), subst (λ (z : List ℕ). WasLockedFor owners z key) same (came x.name x.batch key x.is (has ∙ ap (λ (z : List ℕ). Some (Txn z)) (sym same)))))
+        (undecided_before_or_now history entry legal p f.0);
   }
 
   -- ---- the pasts
@@ -162,14 +178,16 @@ module _ (history : List Entry) (entry : Entry) (legal : IsLegal (history ++ ent
   made_grows : (opened : List Entry) (pasts : List (List (List Event))) (j i : ℕ) (key : Option (List ℕ)) (holder : Holder) → MadeHolder opened history pasts j i key holder → MadeHolder opened grown pasts j i key holder
   made_grows opened pasts j i None (Txn name) k = k
   made_grows opened pasts j i (Some key) (Txn name) (inl k) = inl k
-  made_grows opened pasts j i (Some key) (Txn name) (inr (k, has)) = inr (k, prepare_grows opened name key has)
+  made_grows opened pasts j i (Some key) (Txn name) (inr (k, inl has)) = inr (k, inl (prepare_grows opened name key has))
+  made_grows opened pasts j i (Some key) (Txn name) (inr (k, inr was)) = inr (k, inr was)
   made_grows opened pasts j i (Some key) (Client client) k = k
   made_grows opened pasts j i None (Client client) none = absurd none
 
   accounted_grows : (opened : List Entry) (pasts : List (List (List Event))) (j i : ℕ) (key : Option (List ℕ)) (holder : Holder) (seen : ℕ) (account : Account) → IsAccounted opened history pasts j i key holder seen account → IsAccounted opened grown pasts j i key holder seen account
   accounted_grows opened pasts j i key holder seen own k = made_grows opened pasts j i key holder k
   accounted_grows opened pasts j i key holder seen another (l, m, apart, k) = (l, m, apart, made_grows opened pasts l m key holder k)
-  accounted_grows opened pasts j i key (Txn name) seen (prepare_at n) k = was_grows seen n name key k
+  accounted_grows opened pasts j i key (Txn name) seen (prepare_at n) (inl k) = inl (was_grows seen n name key k)
+  accounted_grows opened pasts j i key (Txn name) seen (prepare_at n) (inr k) = inr (behind_grows opened seen n name k.0, k.1)
   accounted_grows opened pasts j i key (Client name) seen (prepare_at n) k = k
 
   pub holders_part : (opened : List Entry) (t : LockState) (pasts : List (List (List Event))) → AreHolders opened history t pasts → AreHolders opened grown t pasts

@@ -30,7 +30,7 @@ use Rattle.wp_core.specs.Steps.{store_published}
 use Rattle.wp_core.specs.Effects.{with_entry}
 use Rattle.wp_core.specs.Notes.{ends, is_name}
 use Rattle.wp_core.specs.Sound.Actors.{IsParticipantAt}
-use Rattle.wp_core.specs.Sound.Locks.{owner_of, IsOwner}
+use Rattle.wp_core.specs.Sound.Locks.{owner_of, WasLockedFor, IsOwner}
 use Rattle.wp_core.specs.Sound.Views.{IsClearing, HasLeft, Owns, OwnsKey, IsGuarded}
 use Rattle.wp_core.specs.IsSound.{IsSound, participants}
 use Rattle.wp_core.proofs.AllParticipants.{mine}
@@ -82,6 +82,12 @@ module _ (w : World) (by : ℕ) (a : Actor) (entry : Entry) (others : List Entry
       (λ (d : (a.participant.direct ≡ Some key) × (finite.get w.locks.keys key ≡ Some (Client a.participant.client))). absurd (txn_not_client name a.participant.client (sym held ∙ d.1)))
       (λ (t : (m : List ℕ) × (x : Transaction) × HasTransaction a m x × (finite.get w.locks.keys key ≡ Some (Txn m)) × (named history m ≡ None)). ap (named history) (txn_is name t.0 (sym held ∙ t.3)) ∙ t.4) (n.keys key changed)
 
+  -- who prepares a transaction locked each key that is held for it
+  pub prepares_locked : (name : List ℕ) (batch : List Change) (key : List ℕ) → entry ≡ Prepare name batch → finite.get w.locks.keys key ≡ Some (Txn name) → WasLockedFor (participants owner_of w) name key
+  prepares_locked name batch key is held =
+      let t = n.transaction name (ap (transaction_of history) is) in
+      record { at = by; place = 0; owner = owner_of a.participant; there = own_there; began = n.came name batch t.0 key is t.1 (s.locks.keys_known key name held by 0 (owner_of a.participant) own_there t.0 t.1) }
+
   -- the entry's transaction is live
   pub transaction_live : (name : List ℕ) → transaction_of history entry ≡ Some name → (client : List ℕ) × (finite.get w.locks.names name ≡ Some (Some client))
   transaction_live name e = let t = n.transaction name e in (a.participant.client, (s.locks.had by 0 (owner_of a.participant) own_there).names name t.0 t.1)
@@ -104,7 +110,7 @@ module _ (w : World) (by : ℕ) (a : Actor) (entry : Entry) (others : List Entry
   locks_grow : (q : Participant) (name : List ℕ) (p : ℕ) (keys : List (List ℕ)) → SoIn w q (locks_stay name p keys) → SoPending w d q (locks_stay name p keys)
   locks_grow q name p keys k = (le_trans k.0 longer, λ is. k.1 (named_was history entry n.legal name p k.0 is))
 
-  module _ (q : Participant) (owner : IsOwner w.opened w.writes.history w.locks (owner_of q)) where
+  module _ (q : Participant) (owner : IsOwner w.locks (owner_of q)) where
     undecided_grows : (name : List ℕ) (p : ℕ) → (transaction_of history entry ≡ Some name → ⊥) → SoIn w q (undecided_at name p) → SoPending w d q (undecided_at name p)
     undecided_grows name p other k =
         let low = (undecided_within history p (found_named history name p k.1).0).1 in
@@ -147,7 +153,7 @@ module _ (w : World) (by : ℕ) (a : Actor) (entry : Entry) (others : List Entry
   abbrev pub publisher : Participant
   publisher = record a.participant { seen = grown; own = a.participant.own ++ suc (length history) ∷ [] }
 
-  own_owner : IsOwner w.opened w.writes.history w.locks (owner_of a.participant)
+  own_owner : IsOwner w.locks (owner_of a.participant)
   own_owner = s.locks.had by 0 (owner_of a.participant) own_there
 
   not_its : (name : List ℕ) → not (is_name (transaction_of history entry) name) ≡ true → transaction_of history entry ≡ Some name → ⊥
@@ -178,7 +184,7 @@ module _ (w : World) (by : ℕ) (a : Actor) (entry : Entry) (others : List Entry
   -- ---- the others' notes
 
   module _ (j : ℕ) (q : Participant) (ne : j ≢ by) (there : IsParticipantAt (participants owner_of w) j 0 (owner_of q)) where
-    theirs : IsOwner w.opened w.writes.history w.locks (owner_of q)
+    theirs : IsOwner w.locks (owner_of q)
     theirs = s.locks.had j 0 (owner_of q) there
 
     not_theirs_now : (name : List ℕ) → Owns q name → transaction_of history entry ≡ Some name → ⊥

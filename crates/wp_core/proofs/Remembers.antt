@@ -68,14 +68,17 @@ module _ (xs : List Actor) (by : ℕ) (a b : Actor) (e : Event) (at : get_elem? 
   made_still : (opened history : List Entry) (j i : ℕ) (key : Option (List ℕ)) (holder : Holder) → MadeHolder opened history before j i key holder → MadeHolder opened history after j i key holder
   made_still opened history j i None (Txn name) k = begun_still j i name k
   made_still opened history j i (Some key) (Txn name) (inl (begun, k)) = inl (begun_still j i name begun, done_still xs by a b e at same grown j i (locked key (Txn name)) k)
-  made_still opened history j i (Some key) (Txn name) (inr (k, has)) = inr (done_still xs by a b e at same grown j i (took name) k, has)
+  made_still opened history j i (Some key) (Txn name) (inr (k, inl has)) = inr (done_still xs by a b e at same grown j i (took name) k, inl has)
+  made_still opened history j i (Some key) (Txn name) (inr (k, inr was)) = inr (done_still xs by a b e at same grown j i (took name) k, inr (past_still xs by a b e at same grown (locked key (Txn name)) was))
   made_still opened history j i (Some key) (Client client) k = done_still xs by a b e at same grown j i (locked key (Client client)) k
   made_still opened history j i None (Client client) none = absurd none
 
   accounted_still : (opened history : List Entry) (j i : ℕ) (key : Option (List ℕ)) (holder : Holder) (seen : ℕ) (account : Account) → IsAccounted opened history before j i key holder seen account → IsAccounted opened history after j i key holder seen account
   accounted_still opened history j i key holder seen own k = made_still opened history j i key holder k
   accounted_still opened history j i key holder seen another (l, m, apart, k) = (l, m, apart, made_still opened history l m key holder k)
-  accounted_still opened history j i key (Txn name) seen (prepare_at n) k = k
+  accounted_still opened history j i key (Txn name) seen (prepare_at n) (inl k) = inl k
+  accounted_still opened history j i None (Txn name) seen (prepare_at n) (inr k) = absurd k.1
+  accounted_still opened history j i (Some key) (Txn name) seen (prepare_at n) (inr k) = inr (k.0, past_still xs by a b e at same grown (locked key (Txn name)) k.1)
   accounted_still opened history j i key (Client name) seen (prepare_at n) k = k
 
   key_still : (opened : List Entry) (key : List ℕ) (holder : Holder) → WasLocked opened before key holder → WasLocked opened after key holder

@@ -23,7 +23,8 @@ use Rattle.wp_judge.specs.declared.observed.Load.{Load}
 use Rattle.wp_judge.specs.declared.observed.Load.TheVariants.{InPrepared, IsOldCommit}
 use Rattle.wp_judge.specs.declared.observed.Asked.TheVariants as asked
 use Rattle.wp_judge.specs.Order.{ask}
-use Rattle.wp_core.specs.Views.{Account, own, another, prepare_at}
+use Rattle.wp_core.specs.Lists.{IsIn}
+use Rattle.wp_core.specs.Views.{Account, own, another, prepare_at, locked}
 use Rattle.wp_core.specs.World.{Transaction, Actor, World, published}
 use Rattle.wp_core.specs.Entries.{pair_by, pending_pair, transaction_of, changes_under, written}
 use Rattle.wp_core.specs.Sound.Actors.{IsParticipantAt, participants_of}
@@ -69,7 +70,7 @@ IsPrepare other = ⊥
 
 -- The first of the pending entries may be published: it is logged and legal; its versions are in memory; the keys of a Write are
 -- held for the actor; the transaction that it is of is the actor's; a Prepare's number is in the prepared heap, and the pair
--- of any other entry is where a reader finds it.
+-- of any other entry is where a reader finds it. Who prepares a transaction locked each of its keys itself.
 pub record MayPublish (w : World) (by : ℕ) (a : Actor) (entry : Entry) (others : List Entry) : Type 0 where
   pub turn : Holds w.holders write_turn by
   pub pending : w.writes.pending ≡ entry ∷ others
@@ -78,6 +79,7 @@ pub record MayPublish (w : World) (by : ℕ) (a : Actor) (entry : Entry) (others
   pub versions : IsInMemory w.writes w.store
   pub keys : (key : List ℕ) → is_changed (written entry) key ≡ true → IsHeldFor w a key
   pub transaction : IsOwn w a entry
+  pub came : (name : List ℕ) (batch : List Change) (t : Transaction) (key : List ℕ) → entry ≡ Prepare name batch → HasTransaction a name t → set.contains t.locked key ≡ true → IsIn (locked key (Txn name)) a.participant.past
   pub number : IsPrepare entry → set.contains w.prepared.heap (suc (published w)) ≡ true
   pub pair : (pair : CommitPair) → pair_by (suc (published w)) entry ≡ Some pair → IsEntered w.cache w.prepared.delayed_commits w.max_evicted pair
 

@@ -1,12 +1,12 @@
 -- What a step needs, in the world and of the actor that makes it.
-use Rattle.std.specs.Prelude.{length, ◌≡◌, ◌≢◌, ◌⊎◌, ℕ, suc, ◌+◌, ◌^◌, ◌≤◌, ◌<◌, true, false, List, [], ◌∷◌, ◌++◌, Some, None, is_some}
+use Rattle.std.specs.Prelude.{length, ◌≡◌, ◌≢◌, ◌⊎◌, ℕ, suc, ◌+◌, ◌^◌, ◌≤◌, ◌<◌, true, false, [], ◌∷◌, ◌++◌, Some, None, is_some}
 use mathlib.Core.Option.{some}
 use lib.ListN.{get_elem?}
 use Rattle.std.specs.FinSet as set
 use Rattle.std.specs.FinMap as finite
 use Rattle.wp_model.specs.Batch.{is_batch}
 use Rattle.wp_model.specs.Flushed.{InstalledEdit}
-use Rattle.wp_model.specs.History.{named, is_changed}
+use Rattle.wp_model.specs.History.{named}
 use Rattle.wp_model.specs.Legal.{IsLegal}
 use Rattle.wp_model.specs.Decision.{decision_of}
 use Rattle.wp_model.specs.Snapshots.{IsLive, NoOldCommits}
@@ -17,8 +17,8 @@ use Rattle.wp_core.specs.Cache.{pair_at, cache_place, cached}
 use Rattle.wp_model.specs.PreparedSets.{NoneDelayed}
 use Rattle.wp_core.specs.World.{Transaction, Actor, World, published}
 use Rattle.wp_model.specs.Record.{IsOneRecord}
-use Rattle.wp_core.specs.Entries.{next_of, pending_pair, batch_of_name, HasVersionsAt}
-use Rattle.wp_core.specs.Steps.{Step, load_published, register, begin_reading, load, end_reading, store_published, store_max_evicted, store_word, store_delayed_flag, store_old_flag, take_turn, give_turn, make_pending, log_pending, close_log, find_log_closed, find_base, drop_pending, write_segment, use_segment, stop_log, add_prepared, take_pending_prepared, add_delayed_commit, delay_pending, take_out, register_again, release, add_old_commit, add_versions, take_versions, move_versions, replace_versions, install, renew, halt, find_edit, claim_name, take_name, leave_name, free_transaction, lock_key, free_key, lock_direct, free_direct, find_holder, tell, hear, set_batch, note, make_note, make_seat, set_client, learn, join_seat}
+use Rattle.wp_core.specs.Entries.{next_of, pending_pair, HasVersionsAt}
+use Rattle.wp_core.specs.Steps.{Step, load_published, register, begin_reading, load, end_reading, store_published, store_max_evicted, store_word, store_delayed_flag, store_old_flag, take_turn, give_turn, make_pending, log_pending, close_log, find_log_closed, drop_pending, write_segment, use_segment, stop_log, add_prepared, take_pending_prepared, add_delayed_commit, delay_pending, take_out, register_again, release, add_old_commit, add_versions, take_versions, move_versions, replace_versions, install, renew, halt, find_edit, claim_name, take_name, leave_name, free_transaction, lock_key, free_key, lock_direct, free_direct, find_holder, tell, hear, set_batch, note, make_note, make_seat, set_client, learn, join_seat, find_base}
 use Rattle.wp_core.specs.Effects.{with_failed}
 use Rattle.wp_core.specs.Sound.Prepared.{IsPassed}
 use Rattle.wp_core.specs.Sound.Snapshots.{has_versions_at}
@@ -80,10 +80,10 @@ Needs w by a (renew edit) = Holds w.holders tables_turn by × (w.installed.halte
 Needs w by a (halt edit) = Holds w.holders tables_turn by × (w.installed.halted ≡ false) × KeepsStore w w.store (with_failed w.installed edit) × ((failed : InstalledEdit) → edit ≡ Some failed → NamesSegment w failed ⊎ NamesNext w by failed)
 Needs w by a find_edit = Holds w.holders tables_turn by
 -- a name is claimed where it is not live, and a key locked where it is not held, for a transaction that is not prepared; what is
--- undecided is left, where it has locked no key but its batch's, and what is decided or was never prepared is freed
+-- undecided is left, and what is decided or was never prepared is freed
 Needs w by a (claim_name name) = Holds w.holders locks_turn by × (finite.get w.locks.names name ≡ None) × (a.live ≡ true)
 Needs w by a (take_name name p) = Holds w.holders locks_turn by × (finite.get w.locks.names name ≡ Some None) × (named w.writes.history name ≡ Some p)
-Needs w by a (leave_name name) = Holds w.holders locks_turn by × ((t : Transaction) × HasTransaction a name t × ((key : List ℕ) → set.contains t.locked key ≡ true → is_changed (batch_of_name w.writes.history name) key ≡ true)) × (is_some (named w.writes.history name) ≡ true)
+Needs w by a (leave_name name) = Holds w.holders locks_turn by × ((t : Transaction) × HasTransaction a name t) × (is_some (named w.writes.history name) ≡ true)
 Needs w by a (free_transaction name) = Holds w.holders locks_turn by × ((t : Transaction) × HasTransaction a name t) × (named w.writes.history name ≡ None)
 Needs w by a (lock_key name t key) = Holds w.holders locks_turn by × HasTransaction a name t × (finite.get w.locks.keys key ≡ None) × (named w.writes.history name ≡ None)
 Needs w by a (free_key name t key) = Holds w.holders locks_turn by × HasTransaction a name t × (set.contains t.locked key ≡ true) × (named w.writes.history name ≡ None)

@@ -30,7 +30,7 @@ account_of (account.PrepareAt n) = view.prepare_at n
 abbrev pub event_of : Found → Event
 event_of (found.Claimed name) = view.claimed name.value
 event_of (found.Took name) = view.took name.value
-event_of (found.Locked key holder) = view.locked key.value holder.value
+event_of (found.Locked key holder) = view.locked key holder
 event_of (found.Told label n) = view.told label.value n
 event_of (found.Heard label n) = view.heard label.value n
 event_of (found.Flushed edit) = view.installed edit.value false

@@ -15,12 +15,13 @@ pub enum Account {
     PrepareAt(Seq),
 }
 
-/// What an actor did or found. Of what stays in a past a step reads how many tables an edit has, so the rest has no bytes.
+/// What an actor did or found. Of what stays in a past steps read how many tables an edit has and who locked a key, so the rest has no
+/// bytes.
 #[derive(Drop)]
 pub enum Found {
     Claimed(Snapshot<Name>),
     Took(Snapshot<Name>),
-    Locked(Snapshot<Key>, Snapshot<Holder>),
+    Locked(Key, Holder),
     Told(Snapshot<Name>, Seq),
     Heard(Snapshot<Name>, Seq),
     /// An edit that a flush made.

@@ -1,5 +1,5 @@
 -- What an actor has.
-use Rattle.std.proofs.Common.{◌≡◌, true, List, [], ◌∷◌, ap, subst, sym, ◌∙◌, ℕ, Option, Some, None, option_map, unwrap_or, length, refl, zero, suc, take, drop, ◌++◌, ◌≤◌, ◌<◌, ◌^◌, arith}
+use Rattle.std.proofs.Common.{◌≡◌, true, List, [], ◌∷◌, ap, subst, sym, ◌∙◌, ℕ, Option, Some, None, option_map, length, refl, zero, suc, take, drop, ◌++◌, ◌≤◌, ◌<◌, ◌^◌, arith}
 use Rattle.std.specs.Option.{is_some}
 use Rattle.std.proofs.Common.{inl, inr}
 use Rattle.std.specs.FinSet as set
@@ -7,24 +7,23 @@ use Rattle.std.specs.FinMap as finite
 use Rattle.wp_core.specs.World.{World, Actor, Transaction}
 use Rattle.std.specs.List.{slice_get}
 use Rattle.wp_model.specs.declared.entry.Entry.{Entry}
+use Rattle.wp_model.specs.declared.entry.Entry.TheVariants.{Prepare}
+use Rattle.wp_model.specs.declared.holder.Holder.TheVariants.{Txn}
 use Rattle.wp_core.specs.Turns.{Holds, write_turn, snapshots_turn}
 use Rattle.wp_core.specs.Steps.{store_published, store_word, begin_reading, release}
 use Rattle.wp_machine.specs.Machine.{published_step, released_step}
 use Rattle.wp_judge.specs.Words.{CommitPair, commit_pair, fits, numbers_of}
 use Rattle.wp_model.specs.declared.change.Change.{Change}
-use Rattle.wp_model.specs.History.{batch_at, named, holder_of, is_changed}
-use Rattle.wp_model.proofs.Found.{found_holder}
+use Rattle.wp_model.specs.History.{is_changed}
 use Rattle.wp_core.specs.Cache.{pair_at, cache_place}
-use Rattle.wp_core.specs.Conditions.{MayBeEvicted}
+use Rattle.wp_core.specs.Conditions.{HasTransaction, MayBeEvicted}
 use Rattle.wp_core.specs.Entries.{changes_under, written, transaction_of, pending_pair}
 use Rattle.wp_core.specs.Reading.{Registration}
 use Rattle.wp_core.specs.Lists.{IsIn}
+use Rattle.wp_core.specs.Views.{locked}
 use Rattle.wp_core.specs.Sound.Snapshots.{has_versions_at}
-use Rattle.wp_machine_permits.specs.Each.{Each}
 use Rattle.wp_machine_permits.specs.Offered.{IsOffered}
-use Rattle.wp_machine.proofs.NameMaps.{set_of}
-use Rattle.wp_machine_permits.proofs.LiveNumbers.{each_locked}
-use Rattle.wp_machine_permits.specs.Permits.{MayFollow, IsHeldKey, IsOwner, IsOwned, IsEntitled, IsMade, MayBeLeft}
+use Rattle.wp_machine_permits.specs.Permits.{MayFollow, IsHeldKey, IsOwner, IsOwned, IsEntitled, IsMade, LockedItsKeys}
 
 pub owned : (a : Actor) (name : List ℕ) → is_some (finite.get a.participant.transactions name) ≡ true → IsOwned a name
 owned a name there = by (finite.get a.participant.transactions name) refl there
@@ -33,14 +32,12 @@ owned a name there = by (finite.get a.participant.transactions name) refl there
     by None is there = absurd cc
     by (Some t) is there = record { transaction = t; there = is }
 
--- each key that the transaction locked is one of the prepare with the name
-pub left : (history : List Entry) (name : List ℕ) (t : Transaction) (keys : List (List ℕ)) (p : ℕ) → set_of keys ≡ t.locked → named history name ≡ Some p → Each (λ key. holder_of history key ≡ Some p) keys → MayBeLeft history name t
-left history name t keys p locked is each = record {
-  prepared = ap is_some is;
-  keys = λ key has.
-      let held = each_locked (λ key. holder_of history key ≡ Some p) keys each key (ap (λ s. set.contains s key) locked ∙ has) in
-      ap (λ (o : Option ℕ). is_changed (batch_at history (unwrap_or o 0)) key) is ∙ (found_holder history key p held).1;
-}
+-- what is so of the keys of the transaction that the actor has
+pub came : (a : Actor) (name : List ℕ) (t : Transaction) → HasTransaction a name t → ((key : List ℕ) → set.contains t.locked key ≡ true → IsIn (locked key (Txn name)) a.participant.past) → LockedItsKeys a name
+came a name t there each = record { each = λ x key has in_it. let same : x ≡ t = cc in each key (ap (λ (y : Transaction). set.contains y.locked key) (sym same) ∙ in_it) }
+
+pub none_came : (a : Actor) (name : List ℕ) → finite.get a.participant.transactions name ≡ None → LockedItsKeys a name
+none_came a name none = record { each = λ x key has in_it. let apart : Some x ≡ None = sym has ∙ none in absurd cc }
 
 -- the first of the pending entries
 pub publishes : (w : World) (by : ℕ) (a : Actor) (entry : Entry) → Some entry ≡ slice_get w.writes.pending 0 → Holds w.holders write_turn by → w.writes.logged ≡ true → IsEntitled w a entry → IsMade w entry → IsOffered w by a (published_step w.writes.pending)
@@ -62,18 +59,20 @@ publishes w by a entry first turn logged entitled made = cases w.writes.pending 
                 versions = rw (is, ← same) made.versions;
                 keys = entitled.keys;
                 transaction = entitled.transaction;
+                came = λ name batch t key is. (entitled.came name batch is).each t key;
                 number = made.number;
                 pair = made.pair;
               };
         }
 
 pub entitled : (w : World) (a : Actor) (entry : Entry) (history : List Entry) → history ≡ w.writes.history → MayFollow history entry → (batch : List Change) → batch ≡ changes_under history entry → ((key : List ℕ) → is_changed (written entry) key ≡ true → IsHeldKey history w a key)
-    → ((name : List ℕ) → transaction_of history entry ≡ Some name → IsOwner w a name batch) → IsEntitled w a entry
-entitled w a entry history whole follows batch under held owns =
+    → ((name : List ℕ) → transaction_of history entry ≡ Some name → IsOwner w a name batch) → ((name : List ℕ) (changes : List Change) → entry ≡ Prepare name changes → LockedItsKeys a name) → IsEntitled w a entry
+entitled w a entry history whole follows batch under held owns itself =
     let all : batch ≡ changes_under w.writes.history entry = under ∙ ap (λ h. changes_under h entry) whole in
     record {
       legal = rw whole at follows.legal;
       keys = λ key changed. (subst (λ (h : List Entry). IsHeldKey h w a key) whole (held key changed)).held;
+      came = itself;
       transaction = λ name of. let owner = owns name (rw whole of) in (owner.transaction, owner.there, λ key changed. owner.keys key (rw all changed));
     }
 

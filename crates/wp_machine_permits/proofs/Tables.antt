@@ -13,6 +13,7 @@ use Rattle.std.specs.FinSet.{nat_cmp-IsAntisymmetric}
 use Rattle.std.specs.FinMap as finite
 use Rattle.wp_model.specs.declared.change.Change.{Change}
 use Rattle.wp_model.specs.declared.entry.Entry.{Entry}
+use Rattle.wp_model.specs.declared.entry.Entry.TheVariants.{Prepare}
 use Rattle.wp_model.specs.declared.version.Version.{Version}
 use Rattle.wp_model.specs.declared.holder.Holder.TheVariants.{Txn}
 use Rattle.wp_model.specs.Batch.{key_cmp, key_of, value_of, change_to}
@@ -26,12 +27,16 @@ use Rattle.wp_model.specs.Versions.{version_at}
 use Rattle.wp_model.proofs.Numbers.{in_inserted, in_removed, get_inserted}
 use Rattle.wp_core.specs.Changes.{placed, with_registered, with_old_commit}
 use Rattle.wp_core.specs.Entries.{HasVersionsAt, transaction_of, changes_under}
+use Rattle.wp_core.specs.Lists.{IsIn}
 use Rattle.wp_core.specs.Sound.Prepared.{IsInOldCommits}
 use Rattle.wp_core.specs.States.{with_moved}
+use Rattle.wp_core.specs.Views.{Event}
+use Rattle.wp_core.specs.Views as view
 use Rattle.wp_core.specs.World.{Transaction, Transactions}
+use Rattle.wp_machine.proofs.NameMaps as names
 use Rattle.wp_model.proofs.Keyed.{at_inserted}
 use Rattle.wp_model.proofs.Tests.{same_some, or_true}
-use Rattle.wp_machine_permits.specs.Runs.{t, k, d, claimed, locked, whole, memory}
+use Rattle.wp_machine_permits.specs.Runs.{t, k, d, prepared, claimed, locked, whole, memory}
 
 -- ---- nothing yet
 
@@ -79,6 +84,25 @@ of_t history entry is only name e =
     let same : t ≡ name = same_some t name (sym is ∙ e) in
     subst (λ (n : List ℕ). (x : Transaction) × (finite.get transactions_then n ≡ Some x) × ((key : List ℕ) → is_changed (changes_under history entry) key ≡ true → (set.contains x.locked key ≡ true) × (finite.get keys_then key ≡ Some (Txn n)))) same
     (whole, has_whole, λ key changed. (k_locked key (only key changed), k_held key (only key changed)))
+
+only_locked : (key : List ℕ) → set.contains (set.insert no_keys k) key ≡ true → key ≡ k
+only_locked key has = by (eq_by_cmp key_cmp key k) refl (sym (set.contains-insert nat_list_cmp_total no_keys k key ∙ ap (λ (b : Bool). eq_by_cmp key_cmp key k || b) (set.contains-empty key_cmp key)) ∙ has)
+  where
+    by : (b : Bool) → eq_by_cmp key_cmp key k ≡ b → (b || false) ≡ true → key ≡ k
+    by true same is = names.same_key key k same
+    by false other is = absurd (true≢false (sym is))
+
+abbrev name_in : Entry → List ℕ
+name_in (Prepare name changes) = name
+name_in other = []
+
+-- who prepares t, and locked k, locked each of its keys itself
+pub t_came : (past : List Event) → IsIn (view.locked k (Txn t)) past → (name : List ℕ) (changes : List Change) (x : Transaction) (key : List ℕ) → prepared ≡ Prepare name changes → finite.get transactions_then name ≡ Some x → set.contains x.locked key ≡ true → IsIn (view.locked key (Txn name)) past
+t_came past did name changes x key is has in_it =
+    let same : t ≡ name = ap name_in is in
+    let whole_is : whole ≡ x = same_some whole x (sym (at_inserted (finite.insert (finite.insert finite.empty t claimed) t locked) t whole name (sym same)) ∙ has) in
+    let only : key ≡ k = only_locked key (ap (λ (y : Transaction). set.contains y.locked key) whole_is ∙ in_it) in
+    subst (λ (n : List ℕ). IsIn (view.locked key (Txn n)) past) same (subst (λ (y : List ℕ). IsIn (view.locked y (Txn t)) past) (sym only) did)
 
 -- ---- versions
 

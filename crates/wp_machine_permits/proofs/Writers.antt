@@ -6,7 +6,7 @@ use Rattle.std.specs.FinMap as finite
 use Rattle.wp_model.specs.declared.change.Change.TheVariants.{Put, Del}
 use Rattle.wp_model.specs.declared.entry.Entry.{Entry}
 use Rattle.wp_model.specs.declared.entry.Entry.TheVariants.{Write, Commit, Undo, Close}
-use Rattle.wp_model.specs.declared.holder.Holder.TheVariants.{Client}
+use Rattle.wp_model.specs.declared.holder.Holder.TheVariants.{Txn, Client}
 use Rattle.wp_model.specs.Batch.{key_cmp}
 use Rattle.wp_model.specs.Covered.{IsCovered, is_among}
 use Rattle.wp_model.specs.Decision.{entry_version}
@@ -16,11 +16,12 @@ use Rattle.wp_model.specs.Snapshots.{LiveSnapshot, Snapshots}
 use Rattle.wp_history_laws.proofs.Listed.{zero_covered}
 use Rattle.wp_judge.specs.Words.{CommitPair, commit_pair, word_of}
 use Rattle.wp_core.specs.Cache.{cached}
-use Rattle.wp_core.specs.Conditions.{MayBeEvicted}
+use Rattle.wp_core.specs.Conditions.{IsPrepare, MayBeEvicted}
 use Rattle.wp_core.specs.Reading.{Registration}
 use Rattle.wp_core.specs.Sound.Prepared.{IsInOldCommits}
 use Rattle.wp_core.specs.Sound.Store.{IsStored}
 use Rattle.wp_core.specs.States.{live_numbers}
+use Rattle.wp_core.specs.Views as view
 use Rattle.wp_core.specs.World.{World}
 use Rattle.wp_core.proofs.CoveredGrows.{version_within}
 use Rattle.wp_model.proofs.Keyed.{at_inserted}
@@ -31,7 +32,7 @@ use Rattle.wp_model.proofs.Numbers.{in_inserted}
 use Rattle.wp_machine_permits.specs.Runs.{t, k, d, batch, prior, direct, prepared, claimed, locked, freed, memory, edit, prepare, commit, undo, free, delay, write, keep, overwrite, flush}
 use Rattle.wp_machine_permits.proofs.Leading.{after, AreMet, ◌▹◌, opening, with_snapshots}
 use Rattle.wp_machine_permits.proofs.Legal.{prepared_legal, committed_legal, written_legal, undone_legal, closed_legal}
-use Rattle.wp_machine_permits.proofs.Tables.{no_numbers, no_snapshots, keys_then, transactions_then, has_whole, only_key, k_locked, d_free, of_t, added, none_at_2, none_at_3, none_in_heap, still_out, gone_1, not_delayed_1, delayed_1, one_live, live_1, kept_1}
+use Rattle.wp_machine_permits.proofs.Tables.{no_numbers, no_snapshots, keys_then, transactions_then, has_whole, only_key, k_locked, d_free, of_t, t_came, added, none_at_2, none_at_3, none_in_heap, still_out, gone_1, not_delayed_1, delayed_1, one_live, live_1, kept_1}
 
 abbrev first_pair : CommitPair
 first_pair = commit_pair 1 2
@@ -82,6 +83,7 @@ prepare_met =
         versions = λ key value e. added 1 prepared [] (λ key. refl) key 1 ∙ e;
         keys = λ key changed. absurd (true≢false (sym changed));
         transaction = of_t [] prepared refl (only_key (Put k (codes "v")));
+        came = t_came (view.claimed t ∷ view.locked k (Txn t) ∷ []) (inr (inl refl));
         number = λ _. in_inserted no_numbers 1;
         pair = λ pair e. absurd (some_none pair (sym e));
       },
@@ -113,6 +115,7 @@ commit_met m registered =
         versions = λ key value e. absurd (some_none value (sym e));
         keys = λ key changed. absurd (true≢false (sym changed));
         transaction = of_t (prepared ∷ []) (Commit 1) refl put_k;
+        came = λ name changes x key is has in_it. absurd (subst IsPrepare (sym is) tt);
         number = λ e. absurd e;
         pair = λ pair e. inl (subst (λ (x : CommitPair). cached (0 ∷ word_of 2 first_pair ∷ []) x.number ≡ Some x.decision) (same_some first_pair pair e) refl);
       },
@@ -150,6 +153,7 @@ undo_met =
         versions = λ key value e. added 2 (Undo 1 prior) memory none_at_2 key 2 ∙ e;
         keys = λ key changed. absurd (true≢false (sym changed));
         transaction = of_t (prepared ∷ []) (Undo 1 prior) refl (only_key (Del k));
+        came = λ name changes x key is has in_it. absurd (subst IsPrepare (sym is) tt);
         number = λ e. absurd e;
         pair = λ pair e. inl (subst (λ (x : CommitPair). cached (word_of 2 undo_pair ∷ 0 ∷ []) x.number ≡ Some x.decision) (same_some undo_pair pair e) refl);
       },
@@ -165,6 +169,7 @@ undo_met =
         versions = λ key value e. absurd (some_none value (sym e));
         keys = λ key changed. absurd (true≢false (sym changed));
         transaction = of_t (prepared ∷ Undo 1 prior ∷ []) (Close 1) refl put_k;
+        came = λ name changes x key is has in_it. absurd (subst IsPrepare (sym is) tt);
         number = λ e. absurd e;
         pair = λ pair e. inl (subst (λ (x : CommitPair). cached (word_of 2 undo_pair ∷ word_of 2 close_pair ∷ []) x.number ≡ Some x.decision) (same_some close_pair pair e) refl);
       },
@@ -238,6 +243,7 @@ overwrite_met m flag registered kept =
         versions = λ key value e. added 3 (Write direct) memory none_at_3 key 3 ∙ e;
         keys = λ key changed. let same = only_key (Put d (codes "w")) key changed in inl (ap Some (sym same), at_inserted keys_then d (Client (codes "a")) key same);
         transaction = λ name e. absurd (some_none name (sym e));
+        came = λ name changes x key is has in_it. absurd (subst IsPrepare (sym is) tt);
         number = λ e. absurd e;
         pair = λ pair e. inl (subst (λ (x : CommitPair). cached (0 ∷ word_of 2 last_pair ∷ []) x.number ≡ Some x.decision) (same_some last_pair pair e) refl);
       },

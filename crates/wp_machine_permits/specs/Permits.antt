@@ -1,11 +1,14 @@
 -- When the test of a step may say yes.
-use Rattle.std.specs.Prelude.{◌≡◌, ℕ, suc, true, List, [], ◌∷◌, ◌++◌, ◌⊎◌, Option, Some, None, is_some}
+use Rattle.std.specs.Prelude.{◌≡◌, ℕ, suc, true, List, [], ◌∷◌, ◌++◌, ◌⊎◌, Option, Some, None}
 use Rattle.wp_model.specs.declared.entry.Entry.{Entry}
+use Rattle.wp_model.specs.declared.entry.Entry.TheVariants.{Prepare}
 use Rattle.wp_model.specs.Legal.{IsLegal, IsLegalNext}
 use Rattle.wp_core.specs.World.{World, Actor, Transaction, published}
 use Rattle.wp_core.specs.Conditions.{HasTransaction, IsHeldFor, IsOwn, IsPrepare}
 use Rattle.wp_core.specs.Sound.Prepared.{IsEntered}
-use Rattle.wp_core.specs.Entries.{batch_of_name, pair_by, written}
+use Rattle.wp_core.specs.Entries.{pair_by, written}
+use Rattle.wp_core.specs.Lists.{IsIn}
+use Rattle.wp_core.specs.Views.{locked}
 use Rattle.std.specs.FinSet as set
 use Rattle.std.specs.FinMap as finite
 use Rattle.wp_judge.specs.Words.{CommitPair}
@@ -40,16 +43,17 @@ pub record IsOwner (w : World) (a : Actor) (name : List ℕ) (changes : List Cha
   pub there : HasTransaction a name transaction
   pub keys : (key : List ℕ) → is_changed changes key ≡ true → IsLocked w transaction name key
 
--- an undecided prepare has the name, and changes each key that the transaction locked
-pub record MayBeLeft (history : List Entry) (name : List ℕ) (t : Transaction) : Type 0 where
-  pub prepared : is_some (named history name) ≡ true
-  pub keys : (key : List ℕ) → set.contains t.locked key ≡ true → is_changed (batch_of_name history name) key ≡ true
+-- the actor locked each key of its transaction of this name itself
+pub record LockedItsKeys (a : Actor) (name : List ℕ) : Type 0 where
+  pub each : (t : Transaction) (key : List ℕ) → HasTransaction a name t → set.contains t.locked key ≡ true → IsIn (locked key (Txn name)) a.participant.past
 
--- the entry may come next, the keys of a Write are held for the actor, and the transaction that it is of is the actor's
+-- the entry may come next, the keys of a Write are held for the actor, the transaction that it is of is the actor's, and who prepares
+-- one locked each of its keys itself
 pub record IsEntitled (w : World) (a : Actor) (entry : Entry) : Type 0 where
   pub legal : IsLegal (w.writes.history ++ entry ∷ [])
   pub keys : (key : List ℕ) → is_changed (written entry) key ≡ true → IsHeldFor w a key
   pub transaction : IsOwn w a entry
+  pub came : (name : List ℕ) (batch : List Change) → entry ≡ Prepare name batch → LockedItsKeys a name
 
 -- its versions are in memory, the number of a Prepare is in the heap, and the pair of any other is in its word, or is a wide one and delayed
 pub record IsMade (w : World) (entry : Entry) : Type 0 where

@@ -4,10 +4,10 @@ use crate::trouble::{Tried, Trouble, number};
 use std::alloc::Global;
 use wp_judge::Load;
 use wp_machine::{
-    ActorsStep, Fact, InstalledEdit, Kind, LocksStep, Noted, OwnStep, PreparedStep, ReaderStep,
-    SnapshotsStep, Step, StoreStep, TablesStep, Turn, TurnStep, WordStep, WriteStep,
+    Account, ActorsStep, Fact, InstalledEdit, Kind, LocksStep, Noted, OwnStep, PreparedStep,
+    ReaderStep, SnapshotsStep, Step, StoreStep, TablesStep, Turn, TurnStep, WordStep, WriteStep,
 };
-use wp_model::{Key, Name, Segment, Seq};
+use wp_model::{Holder, Key, Name, Segment, Seq};
 
 /// The first word of a line, and what is after it.
 pub(crate) fn first_word(line: &str) -> (&str, &str) {
@@ -152,6 +152,26 @@ fn locks_step(alloc: Global, by: usize, verb: &str, rest: &str) -> Tried<Step> {
     Ok(Step { by, kind })
 }
 
+/// Reads whom a finder accounts for: `own`, `another`, or after how many entries a prepare was undecided.
+fn account_of(word: &str) -> Tried<Account> {
+    match word {
+        "own" => Ok(Account::Own),
+        "another" => Ok(Account::Another),
+        _ => Ok(Account::PrepareAt(number(word)?)),
+    }
+}
+
+/// Reads `locks-find NAME KEY ACCOUNT`.
+fn find_step(alloc: Global, by: usize, rest: &str) -> Tried<Step> {
+    let (name, rest) = first_word(rest);
+    let (key, account) = first_word(rest);
+    let holder = Holder::Txn(word_of(alloc, name)?);
+    let key = Some(word_of(alloc, key)?);
+    let step = LocksStep::FindHolder(key, holder, account_of(account)?);
+    let kind = Kind::Locks(step);
+    Ok(Step { by, kind })
+}
+
 /// Reads keys with a space between each two.
 fn keys_of(alloc: Global, words: &str) -> Tried<Vec<Key>> {
     let mut keys = Vec::new(alloc);
@@ -199,6 +219,7 @@ pub(crate) fn step_of(alloc: Global, by: usize, line: &str) -> Tried<Step> {
         "write-pend" => pending_step(alloc, by, rest),
         "set-batch" => batch_step(alloc, by, rest),
         "note-unchanged" | "note-locks" => note_step(alloc, by, verb, rest),
+        "locks-find" => find_step(alloc, by, rest),
         _ if verb.starts_with("locks-") => locks_step(alloc, by, verb, rest),
         _ => step_of_numbers(alloc, by, verb, rest),
     }

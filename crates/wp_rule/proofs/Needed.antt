@@ -1,11 +1,10 @@
 -- What a seat knows by its view is what the machine's steps need.
-use Rattle.std.proofs.Common.{◌≡◌, ◌≢◌, inl, inr, ⊎_elim, ℕ, suc, ◌≤◌, ◌<◌, Bool, true, false, true≢false, ◌||◌, List, [], ◌∷◌, length, length-append, sym, subst, ap, ◌∙◌, Option, Some, None, is_some, unwrap_or, arith, refl, ◌⊎◌, ◌+◌}
+use Rattle.std.proofs.Common.{◌≡◌, ◌≢◌, inl, inr, ⊎_elim, ℕ, suc, ◌≤◌, ◌<◌, Bool, true, false, true≢false, ◌||◌, List, [], ◌∷◌, length, length-append, sym, subst, ap, ◌∙◌, Option, Some, None, is_some, arith, refl, ◌⊎◌, ◌+◌}
 use Rattle.std.specs.FinSet as set
 use Rattle.std.specs.FinMap as finite
 use Rattle.std.specs.List.{cons_option}
 use Rattle.std.proofs.lemmas.Bool.{false_from_ne_true, ltb-false}
 use Rattle.std.proofs.lemmas.Slice.Eq.{bytes_eq-Decides}
-use Rattle.wp_model.specs.declared.change.Change.{Change}
 use Rattle.wp_model.specs.declared.entry.Entry.{Entry}
 use Rattle.wp_model.specs.declared.entry.Entry.TheVariants.{Write, Prepare, Commit, Undo, Close}
 use Rattle.wp_model.specs.declared.holder.Holder.TheVariants.{Txn, Client}
@@ -25,7 +24,7 @@ use Rattle.wp_core.specs.Cache.{cache_place, cached, pair_at}
 use Rattle.wp_core.specs.States.{WriteState, StoreState, Installed, writes, prepared, snapshots, store, locks, installed}
 use Rattle.wp_core.specs.Views.{Fact, passed, in_old_commits, apart, words_stay, has_left, versions_in_memory, versions_nowhere, number_in_heap, number_not_in_heap, undecided_at, prior_values, unprepared, direct_free, unchanged, locks_stay, tables_stay, live_listed, nothing_flushed, frozen_stay, delayed_flag_stays, old_flag_stays, pair_delayed, pair_not_delayed, none_waits}
 use Rattle.wp_core.specs.World.{Transaction, Actor, World}
-use Rattle.wp_core.specs.Entries.{next_of, batch_of_name, extended, pending_pair, pair_by, pairs_of}
+use Rattle.wp_core.specs.Entries.{next_of, extended, pending_pair, pair_by, pairs_of}
 use Rattle.wp_core.specs.Conditions.{IsHeldFor, MayPublish, MayLook, MayBeEvicted, NoneNext, MayGive, NamesSegment, NamesNext}
 use Rattle.wp_core.specs.Reading.{Registration}
 use Rattle.wp_core.specs.Sound.Locks.{IsOwner, owner_of}
@@ -36,7 +35,7 @@ use Rattle.wp_core.specs.Needs.{Needs}
 use Rattle.wp_core.specs.Sound.Views.{IsGuarded, IsClearing, IsApart, IsInMemory, IsNowhere, IsSo}
 use Rattle.wp_core.specs.Sound.History.{IsRest}
 use Rattle.wp_core.specs.IsSound.{IsSound}
-use Rattle.wp_model.proofs.Entries.{entry_at_old, batch_at_old, entry_at_past, slice_get_next, prepared_within}
+use Rattle.wp_model.proofs.Entries.{entry_at_old, entry_at_past, slice_get_next, prepared_within}
 use Rattle.wp_model.proofs.Found.{found_holder, found_named}
 use Rattle.wp_core.proofs.AllParticipants.{mine}
 use Rattle.wp_core.proofs.HistoryGrows.{none_is}
@@ -156,7 +155,7 @@ module _ (p : Place) (a : Actor) (w : World) (k : IsAt p a w) where
   sound : IsSound w
   sound = at_sound p a w k
 
-  owner : IsOwner w.opened w.writes.history w.locks (owner_of a.participant)
+  owner : IsOwner w.locks (owner_of a.participant)
   owner = sound.locks.had p.by 0 (owner_of a.participant) (mine owner_of w.actors p.by a a k.there refl)
 
   -- the key of an undecided prepare is held for its transaction
@@ -177,13 +176,6 @@ module _ (p : Place) (a : Actor) (w : World) (k : IsAt p a w) where
   undecided_of name q key is changed =
       let f = found_named w.writes.history name q is in
       sound.locks.prepared_keys q key f.0 changed ∙ ap (λ (z : List ℕ). Some (Txn z)) ((bytes_eq-Decides (name_at w.writes.history q) name).0 f.1)
-
-  -- what the batch of the prepare with the name changed it changes now
-  batch_now : (name : List ℕ) (q : ℕ) (key : List ℕ) → named w.writes.history name ≡ Some q → q ≤ length a.participant.seen → is_changed (batch_at a.participant.seen q) key ≡ true → is_changed (batch_of_name w.writes.history name) key ≡ true
-  batch_now name q key is low changed =
-      let s = seen_is p a w k in
-      let same : batch_at w.writes.history q ≡ batch_at a.participant.seen q = ap (λ (h : List Entry). batch_at h q) s.1 ∙ batch_at_old a.participant.seen s.0 q low in
-      ap (λ (o : Option ℕ). is_changed (batch_at w.writes.history (unwrap_or o 0)) key) is ∙ ap (λ (batch : List Change). is_changed batch key) same ∙ changed
 
   -- ---- the next number
 
@@ -249,7 +241,7 @@ module _ (p : Place) (a : Actor) (w : World) (k : IsAt p a w) where
   facts (unprepared name) n = let h = has_writes _ n in (alone, (h.1.0, h.1.1, λ x key has locked. free_of name x key h.1.1 has locked))
   facts (direct_free key) n = (alone, (n, owner.direct key n, free_direct_key key n))
   facts (unchanged name key m) n = let h = has_writes _ n.1 in (alone, (n.0, h.1.0, h.1.1))
-  facts (locks_stay name q keys) n = let h = has_writes _ n in let g = has_locks _ h.1 in (alone, (g.1.0, λ is. g.1.1))
+  facts (locks_stay name q keys) n = let h = has_locks _ n in let low = no_longer in (alone, ((let f = h.1.0 in omega arith), λ is. h.1.1))
   facts (tables_stay versions floor) n = let h = has_installed _ n in let g = has_store _ h.1 in (guarded tables_turn h.0, g.1)
   facts (live_listed floor listed) n = let h = has_snapshots _ n in let low = no_longer in (alone, ((let f = h.1.0 in omega arith), h.1.1))
   facts nothing_flushed n = let h = has_installed _ n in let g = has_store _ h.1 in (guarded tables_turn h.0, g.1)
@@ -297,6 +289,7 @@ module _ (p : Place) (a : Actor) (w : World) (k : IsAt p a w) where
     versions = is_so versions_in_memory n.versions;
     keys = λ key is. held_for key (n.keys key is);
     transaction = λ name is. let t = n.transaction name is in (t.0, t.1, λ key changed. (t.2 key changed, owner.keys name t.0 key t.1 (t.2 key changed)));
+    came = n.came;
     number = λ is. is_so number_in_heap (n.number is);
     pair = λ pair is. entered pair others (ap (pending_pair w.writes.history) n.pending ∙ is) (n.pair pair is);
   }
@@ -372,7 +365,7 @@ module _ (p : Place) (a : Actor) (w : World) (k : IsAt p a w) where
   needed find_edit n = (has_installed (λ e. Unit {0}) n).0
   needed (claim_name name) n = let h = has_locks _ n in (h.0, h.1.0, h.1.1)
   needed (take_name name q) n = let h = has_writes _ n in let g = has_locks _ h.1 in (g.0, g.1.0, g.1.1)
-  needed (leave_name name) n = let h = has_locks _ n in let c = h.1.2 in let s = is_so (undecided_at name c.0) c.1 in (h.0, (h.1.0, h.1.1, λ key locked. batch_now name c.0 key s.1 c.2 (c.3 key locked)), ap is_some s.1)
+  needed (leave_name name) n = let h = has_locks _ n in let c = h.1.1 in (h.0, h.1.0, ap is_some (is_so (undecided_at name c.0) c.1).1)
   needed (free_transaction name) n = let h = has_locks _ n in (h.0, h.1.0, (is_so (unprepared name) h.1.1).1)
   needed (lock_key name x key) n = let h = has_locks _ n in (h.0, h.1.0, h.1.1, (is_so (unprepared name) h.1.2).1)
   needed (free_key name x key) n = let h = has_locks _ n in (h.0, h.1.0, h.1.1, (is_so (unprepared name) h.1.2).1)

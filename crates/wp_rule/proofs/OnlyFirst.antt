@@ -10,16 +10,17 @@ use Rattle.wp_model.specs.declared.holder.Holder.{Holder}
 use Rattle.wp_model.specs.declared.holder.Holder.TheVariants.{Txn, Client}
 use Rattle.wp_core.specs.Lists.{IsIn, one_if, total}
 use Rattle.wp_core.specs.Turns.{Turn, turn_holder}
-use Rattle.wp_core.specs.Views.{Account, Event, own, another, prepare_at, renewed}
+use Rattle.wp_core.specs.Views.{Account, Event, own, another, prepare_at, locked, renewed}
 use Rattle.wp_core.specs.World.{Actor, Participant, World, new_participant}
 use Rattle.wp_core.specs.World as world
 use Rattle.wp_core.specs.Sound.Actors.{seen_of, own_of, learned_of, held_of, role_of, participants_of, IsParticipantAt, total_participants, times}
-use Rattle.wp_core.specs.Sound.Locks.{Owner, owner_of, IsNameOf, IsDirectOf, AreLocked}
+use Rattle.wp_core.specs.Sound.Locks.{Owner, owner_of, IsNameOf, IsDirectOf, WasLockedFor, AreLocked}
 use Rattle.wp_core.specs.Sound.Pasts.{past_of, HasDone, IsPast, closes_log, is_tables_fault, HasBegun, MadeHolder, IsAccounted, WasLocked, WasInstalled, WasPlaced, WasBased, OtherDid, OtherInstalls, OtherCompacts, AreHolders, IsBoard, AreFaults, AreEdits}
 use Rattle.wp_core.specs.Sound.Reader.{reader_of}
 use Rattle.wp_core.specs.Sound.Snapshots.{registered_of, view_of}
 use Rattle.wp_core.specs.Sound.Views.{noter_of}
 use Rattle.wp_core.specs.IsSound.{IsSound, participants}
+use Rattle.wp_core.proofs.OwnerMoves.{came_still, beyond_still}
 use Rattle.wp_model.proofs.Tests.{none_some}
 use Rattle.wp_rule.specs.Shows.{DidNothing}
 
@@ -96,14 +97,17 @@ module _ (w : World) (a : Actor) (others : List Actor) (is : w.actors ≡ a ∷ 
   made_down : (j i : ℕ) (key : Option (List ℕ)) (holder : Holder) → MadeHolder w.opened w.writes.history (participants past_of w) j i key holder → MadeHolder w.opened w.writes.history (participants past_of v) j i key holder
   made_down j i None (Txn name) k = begun_down j i name k
   made_down j i (Some key) (Txn name) (inl (begun, k)) = inl (begun_down j i name begun, done_down j i _ k)
-  made_down j i (Some key) (Txn name) (inr (k, has)) = inr (done_down j i _ k, has)
+  made_down j i (Some key) (Txn name) (inr (k, inl has)) = inr (done_down j i _ k, inl has)
+  made_down j i (Some key) (Txn name) (inr (k, inr was)) = inr (done_down j i _ k, inr (past_down _ was))
   made_down j i (Some key) (Client client) k = done_down j i _ k
   made_down j i None (Client client) none = absurd none
 
   accounted_down : (j i : ℕ) (key : Option (List ℕ)) (holder : Holder) (seen : ℕ) (account : Account) → IsAccounted w.opened w.writes.history (participants past_of w) j i key holder seen account → IsAccounted w.opened w.writes.history (participants past_of v) j i key holder seen account
   accounted_down j i key holder seen own k = made_down j i key holder k
   accounted_down j i key holder seen another k = (k.0, k.1, k.2, made_down k.0 k.1 key holder k.3)
-  accounted_down j i key (Txn name) seen (prepare_at n) k = k
+  accounted_down j i key (Txn name) seen (prepare_at n) (inl k) = inl k
+  accounted_down j i None (Txn name) seen (prepare_at n) (inr k) = absurd k.1
+  accounted_down j i (Some key) (Txn name) seen (prepare_at n) (inr k) = inr (k.0, past_down _ k.1)
   accounted_down j i key (Client name) seen (prepare_at n) k = absurd k
 
   -- ---- names and keys
@@ -120,22 +124,29 @@ module _ (w : World) (a : Actor) (others : List Actor) (is : w.actors ≡ a ∷ 
       (λ new. let q : None ≡ Some key = ap (λ (o : Owner). o.direct) (sym new.2) ∙ n.has in absurd cc)
       (down owner_of n.at n.place n.owner n.there)
 
+  locked_for_down : (name key : List ℕ) → WasLockedFor (participants owner_of w) name key → WasLockedFor (participants owner_of v) name key
+  locked_for_down name key n = ⊎_elim
+      (λ there. record { at = n.at; place = n.place; owner = n.owner; there = there; began = n.began })
+      (λ new. absurd (subst (IsIn (locked key (Txn name))) (ap (λ (o : Owner). o.past) new.2) n.began))
+      (down owner_of n.at n.place n.owner n.there)
+
   locks_down : AreLocked w.opened w.writes.history w.locks (participants owner_of v)
   locks_down = let k = s.locks in record {
     prepared_names = k.prepared_names;
     prepared_keys = k.prepared_keys;
     had = λ j i o there. k.had j i o (up owner_of j i o there);
+    came = λ j i o there name x key has held. came_still w.opened w.writes.history (participants owner_of w) (participants owner_of v) o.past o.past (λ e h. h) name key (λ was. locked_for_down name key was) (k.came j i o (up owner_of j i o there) name x key has held);
     apart = record {
       names = λ j i m l o p name x y there there'. k.apart.names j i m l o p name x y (up owner_of j i o there) (up owner_of m l p there');
       direct = λ j i m l o p key there there'. k.apart.direct j i m l o p key (up owner_of j i o there) (up owner_of m l p there');
     };
     names_had = λ name client h. name_down name client (k.names_had name client h);
     names_left = k.names_left;
-    keys_left = k.keys_left;
     keys_live = k.keys_live;
     keys_known = λ key name h j i o there. k.keys_known key name h j i o (up owner_of j i o there);
     keys_direct = λ key client h. direct_down key client (k.keys_direct key client h);
     unchanged = k.unchanged;
+    beyond = λ key name p is h. beyond_still w.opened w.writes.history (participants owner_of w) (participants owner_of v) p name key (λ was. locked_for_down name key was) (k.beyond key name p is h);
   }
 
   -- ---- all parts

@@ -5,6 +5,7 @@ use Rattle.std.specs.FinMap as finite
 use Rattle.wp_model.specs.declared.change.Change.{Change}
 use Rattle.wp_model.specs.declared.entry.Entry.{Entry}
 use Rattle.wp_model.specs.declared.entry.Entry.TheVariants.{Prepare}
+use Rattle.wp_model.specs.declared.holder.Holder.TheVariants.{Txn}
 use Rattle.wp_model.specs.Batch.{is_batch}
 use Rattle.wp_model.specs.declared.version.Version.{Version}
 use Rattle.wp_model.specs.Covered.{IsCovered, is_among}
@@ -26,7 +27,7 @@ use Rattle.wp_core.specs.Lists.{IsIn}
 use Rattle.wp_core.specs.Turns.{Turn, write_turn, prepared_turn, snapshots_turn, store_turn, locks_turn, tables_turn}
 use Rattle.wp_core.specs.Cache.{cached, cache_place, pair_at}
 use Rattle.wp_core.specs.States.{WriteState, StoreState, Installed, Content, writes, prepared, snapshots, store, locks, installed, up_to}
-use Rattle.wp_core.specs.Views.{Fact, passed, in_old_commits, apart, words_stay, has_left, versions_in_memory, versions_nowhere, number_in_heap, number_not_in_heap, pair_delayed, pair_not_delayed, none_waits, undecided_at, prior_values, unprepared, direct_free, unchanged, locks_stay, tables_stay, live_listed, nothing_flushed, frozen_stay, delayed_flag_stays, old_flag_stays}
+use Rattle.wp_core.specs.Views.{Fact, passed, in_old_commits, apart, words_stay, has_left, versions_in_memory, versions_nowhere, number_in_heap, number_not_in_heap, pair_delayed, pair_not_delayed, none_waits, undecided_at, prior_values, unprepared, direct_free, unchanged, locks_stay, locked, tables_stay, live_listed, nothing_flushed, frozen_stay, delayed_flag_stays, old_flag_stays}
 use Rattle.wp_core.specs.World.{Transaction, Actor, World}
 use Rattle.wp_model.specs.Record.{IsOneRecord}
 use Rattle.wp_core.specs.Entries.{next_of, pair_by, pending_pair, pairs_of, transaction_of, changes_under, written, HasVersionsAt}
@@ -35,7 +36,7 @@ use Rattle.wp_core.specs.Sound.Prepared.{IsInOldCommits}
 use Rattle.wp_core.specs.Sound.Snapshots.{has_versions_at}
 use Rattle.wp_core.specs.Sound.Store.{NoneFlushed}
 use Rattle.wp_core.specs.Sound.Views.{IsApart, HasLeft, IsInMemory, IsNowhere, IsDelayed, IsUndelayed, Owns, OwnsKey, AreKeysOf}
-use Rattle.wp_core.specs.Steps.{Step, load_published, register, begin_reading, load, end_reading, store_published, store_max_evicted, store_word, store_delayed_flag, store_old_flag, give_turn, make_pending, log_pending, close_log, find_log_closed, find_base, drop_pending, write_segment, use_segment, stop_log, add_prepared, take_pending_prepared, add_delayed_commit, delay_pending, take_out, register_again, release, add_old_commit, add_versions, take_versions, move_versions, replace_versions, install, renew, halt, find_edit, claim_name, take_name, leave_name, free_transaction, lock_key, free_key, lock_direct, free_direct, tell, hear, set_batch, note, set_client}
+use Rattle.wp_core.specs.Steps.{Step, load_published, register, begin_reading, load, end_reading, store_published, store_max_evicted, store_word, store_delayed_flag, store_old_flag, give_turn, make_pending, log_pending, close_log, find_log_closed, drop_pending, write_segment, use_segment, stop_log, add_prepared, take_pending_prepared, add_delayed_commit, delay_pending, take_out, register_again, release, add_old_commit, add_versions, take_versions, move_versions, replace_versions, install, renew, halt, find_edit, claim_name, take_name, leave_name, free_transaction, lock_key, free_key, lock_direct, free_direct, tell, hear, set_batch, note, set_client, find_base}
 use Rattle.wp_rule.specs.Bound.{bound_past}
 use Rattle.wp_rule.specs.Words.{Place}
 
@@ -135,7 +136,7 @@ KnowsFact a (prior_values name q batch) = Holding a writes (λ d. Owns a.partici
 KnowsFact a (unprepared name) = Holding a writes (λ d. Owns a.participant name × (named d.history name ≡ None))
 KnowsFact a (direct_free key) = a.participant.direct ≡ Some key
 KnowsFact a (unchanged name key n) = OwnsKey a.participant name key × Holding a writes (λ d. (n ≤ length d.history) × IsUnchanged d.history key n)
-KnowsFact a (locks_stay name q keys) = Holding a writes (λ d. Holding a locks (λ t. (q ≤ length d.history) × AreKeysOf t.keys name keys))
+KnowsFact a (locks_stay name q keys) = Holding a locks (λ t. (q ≤ length a.participant.seen) × AreKeysOf t.keys name keys)
 KnowsFact a (tables_stay versions floor) = Holding a installed (λ e. Holding a store (λ t. (t.tables ≡ versions) × (t.floor ≡ floor)))
 KnowsFact a (live_listed floor listed) = Holding a snapshots (λ m. (floor ≤ length a.participant.seen) × ((n : ℕ) → IsLive m n → (is_among listed n ≡ true) ⊎ (floor ≤ n)))
 KnowsFact a nothing_flushed = Holding a installed (λ e. Holding a store (λ t. NoneFlushed t.memory e.last.flushed))
@@ -160,12 +161,9 @@ pub record KnowsPublish (a : Actor) (cells : ℕ) (d : WriteState) (entry : Entr
   pub keys : (key : List ℕ) → is_changed (written entry) key ≡ true → KnowsHeld a key
   pub transaction : (name : List ℕ) → transaction_of d.history entry ≡ Some name
       → (x : Transaction) × HasTransaction a name x × ((key : List ℕ) → is_changed (changes_under d.history entry) key ≡ true → set.contains x.locked key ≡ true)
+  pub came : (name : List ℕ) (batch : List Change) (x : Transaction) (key : List ℕ) → entry ≡ Prepare name batch → HasTransaction a name x → set.contains x.locked key ≡ true → IsIn (locked key (Txn name)) a.participant.past
   pub number : IsPrepare entry → Noted a number_in_heap
   pub pair : (pair : CommitPair) → pair_by (suc (length d.history)) entry ≡ Some pair → KnowsEntered a cells pair
-
--- the transaction may be left: it was noted as undecided, and it has locked no key but those of its batch
-abbrev pub KnowsLeft : Actor → List ℕ → Transaction → Type 0
-KnowsLeft a name x = (q : ℕ) × Noted a (undecided_at name q) × (q ≤ length a.participant.seen) × ((key : List ℕ) → set.contains x.locked key ≡ true → is_changed (batch_at a.participant.seen q) key ≡ true)
 
 -- ---- maintenance
 
@@ -259,7 +257,7 @@ Knows p a (halt (Some edit)) = Holding a installed (λ e. (e.halted ≡ false) �
 Knows p a find_edit = Holding a installed (λ e. Unit {0})
 Knows p a (claim_name name) = Holding a locks (λ t. (finite.get t.names name ≡ None) × (a.live ≡ true))
 Knows p a (take_name name q) = Holding a writes (λ d. Holding a locks (λ t. (finite.get t.names name ≡ Some None) × (named d.history name ≡ Some q)))
-Knows p a (leave_name name) = Holding a locks (λ t. (x : Transaction) × HasTransaction a name x × KnowsLeft a name x)
+Knows p a (leave_name name) = Holding a locks (λ t. ((x : Transaction) × HasTransaction a name x) × ((q : ℕ) × Noted a (undecided_at name q)))
 Knows p a (free_transaction name) = Holding a locks (λ t. ((x : Transaction) × HasTransaction a name x) × Noted a (unprepared name))
 Knows p a (lock_key name x key) = Holding a locks (λ t. HasTransaction a name x × (finite.get t.keys key ≡ None) × Noted a (unprepared name))
 Knows p a (free_key name x key) = Holding a locks (λ t. HasTransaction a name x × (set.contains x.locked key ≡ true) × Noted a (unprepared name))

@@ -1,5 +1,5 @@
 -- What is so of the actors' pasts: whom they found, what they told, which faults they met, which edits they installed.
-use Rattle.std.specs.Prelude.{◌≡◌, ◌≢◌, ◌⊎◌, ℕ, ◌+◌, ◌≤◌, ◌<◌, Bool, true, false, List, [], length, fold, Option, Some, None, is_some}
+use Rattle.std.specs.Prelude.{◌≡◌, ◌≢◌, ◌⊎◌, ℕ, ◌+◌, ◌≤◌, ◌<◌, Bool, true, false, List, [], length, take, fold, Option, Some, None, is_some}
 use Rattle.std.specs.FinMap as finite
 use Rattle.wp_model.specs.declared.entry.Entry.{Entry}
 use Rattle.wp_model.specs.declared.segment.Segment.{Segment}
@@ -37,20 +37,33 @@ times_past test pasts = total_participants (total (λ e. one_if (test e))) pasts
 abbrev pub HasBegun : List (List (List Event)) → ℕ → ℕ → List ℕ → Type 0
 HasBegun pasts j i name = HasDone pasts j i (claimed name) ⊎ HasDone pasts j i (took name)
 
--- One of the participants made the holder one: it claimed or took the name, and locked the key under it or took it with a prepare
--- that has the key; or it locked the key for a direct write.
+-- One of the participants made the holder one: it claimed or took the name, and locked the key under it, or took it with a prepare
+-- that has the key, or while somebody had locked it; or it locked the key for a direct write.
 abbrev pub MadeHolder : (opened history : List Entry) → List (List (List Event)) → ℕ → ℕ → Option (List ℕ) → Holder → Type 0
 MadeHolder opened history pasts j i None (Txn name) = HasBegun pasts j i name
-MadeHolder opened history pasts j i (Some key) (Txn name) = (HasBegun pasts j i name × HasDone pasts j i (locked key (Txn name))) ⊎ (HasDone pasts j i (took name) × PrepareHas opened history name key)
+MadeHolder opened history pasts j i (Some key) (Txn name) = (HasBegun pasts j i name × HasDone pasts j i (locked key (Txn name))) ⊎ (HasDone pasts j i (took name) × (PrepareHas opened history name key ⊎ IsPast pasts (locked key (Txn name))))
 MadeHolder opened history pasts j i (Some key) (Client client) = HasDone pasts j i (locked key (Client client))
 MadeHolder opened history pasts j i None (Client client) = ⊥
+
+-- somebody locked the key, where one is given, for the transaction of this name
+abbrev pub IsLockedFor : List (List (List Event)) → List ℕ → Option (List ℕ) → Type 0
+IsLockedFor pasts name None = ⊥
+IsLockedFor pasts name (Some key) = IsPast pasts (locked key (Txn name))
+
+-- when n entries were published, which are so many or more, a prepare of this name was undecided that came behind the opening
+abbrev pub WasPreparedBehind : (opened history : List Entry) → (from n : ℕ) → List ℕ → Type 0
+WasPreparedBehind opened history from n name = (from ≤ n) × (n ≤ length history) × ((p : ℕ) × (length opened < p) × (named (take n history) name ≡ Some p))
+
+-- a prepare of this name was undecided, with the key; or one that came behind the opening was, and somebody locked the key for it
+abbrev pub WasPreparedFor : (opened history : List Entry) → List (List (List Event)) → (from n : ℕ) → List ℕ → Option (List ℕ) → Type 0
+WasPreparedFor opened history pasts from n name key = WasPrepared history from n name key ⊎ (WasPreparedBehind opened history from n name × IsLockedFor pasts name key)
 
 -- How the answer of one of the participants, that this is the holder of a key or else a live name, is accounted for: by
 -- what it did itself, by what another did, or by a prepare that was undecided when it had seen so many entries, or later.
 abbrev pub IsAccounted : (opened history : List Entry) → List (List (List Event)) → ℕ → ℕ → Option (List ℕ) → Holder → ℕ → Account → Type 0
 IsAccounted opened history pasts j i key holder seen own = MadeHolder opened history pasts j i key holder
 IsAccounted opened history pasts j i key holder seen another = (k l : ℕ) × ((k ≢ j) ⊎ (l ≢ i)) × MadeHolder opened history pasts k l key holder
-IsAccounted opened history pasts j i key (Txn name) seen (prepare_at n) = WasPrepared history seen n name key
+IsAccounted opened history pasts j i key (Txn name) seen (prepare_at n) = WasPreparedFor opened history pasts seen n name key
 IsAccounted opened history pasts j i key (Client name) seen (prepare_at n) = ⊥
 
 -- the key was locked for the holder, or is one of a prepare that was undecided at the opening

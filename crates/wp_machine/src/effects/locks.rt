@@ -104,10 +104,11 @@ fn free_transaction(world: &mut World, actor: &mut Actor, name: &Name) -> Result
     Ok(())
 }
 
-fn locked(key: &Key, holder: &Holder) -> Event
-    ensures { result ≡ locked key.now holder.now }
+fn locked(key: &Key, holder: &Holder, alloc: Global) -> Result<Event, AllocError>
+    ensures { IfOk result (λ event. event ≡ locked key.now holder.now) }
 {
-    Event::of(Found::Locked(Snapshot::of(key), Snapshot::of(holder)))
+    let (key, holder) = (key.copy(alloc)?, holder.copy(alloc)?);
+    Ok(Event::of(Found::Locked(key, holder)))
 }
 
 /// The holder has the key.
@@ -136,7 +137,8 @@ fn lock_key(world: &mut World, actor: &mut Actor, name: &Name, key: &Key) -> Res
     };
     let changed = transaction.with_key(key, alloc)?;
     let holder = Holder::Txn(name.copy(alloc)?);
-    have(actor, name, changed, locked(key, &holder), alloc)?;
+    let event = locked(key, &holder, alloc)?;
+    have(actor, name, changed, event, alloc)?;
     put_key(world, actor, key, holder)
 }
 
@@ -169,7 +171,8 @@ fn lock_direct(world: &mut World, actor: &mut Actor, key: &Key) -> Result<(), Al
     let alloc = world.alloc;
     actor.set_direct(Some(key.copy(alloc)?));
     let holder = Holder::Client(actor.participant.client(alloc)?);
-    actor.remember(locked(key, &holder))?;
+    let event = locked(key, &holder, alloc)?;
+    actor.remember(event)?;
     put_key(world, actor, key, holder)
 }
 

@@ -22,10 +22,10 @@ fn is_unchanged(entries: &[Entry], key: &Key, n: Seq, alloc: Global) -> Result<b
     if n > entries.len() as Seq {
         return Ok(false);
     }
-    let Some(history) = history_of(entries, alloc)? else {
+    let Some(mut history) = history_of(entries, alloc)? else {
         return Ok(false);
     };
-    Ok(history.changed_after(key, n).is_none())
+    Ok(history.changed_after(alloc, key, n).is_none())
 }
 
 /// Whether the participant's transaction locked the key, which no entry above n changes.

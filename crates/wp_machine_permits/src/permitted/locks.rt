@@ -1,20 +1,17 @@
 //! Whether a step with the locks turn may be made.
-ghost use Rattle.std.specs.Prelude.{◌≡◌, true, Some, None, IfOk, option_map};
+ghost use Rattle.std.specs.Prelude.{◌≡◌, true, Some, None, IfOk, is_some, option_map};
 ghost use Rattle.std.specs.FinMap as finite;
 ghost use Rattle.wp_core.specs.World.{Actor};
 ghost use Rattle.wp_core.specs.Steps as step;
-ghost use Rattle.wp_model.specs.History.{named, holder_of};
+ghost use Rattle.wp_model.specs.History.{named};
 ghost use Rattle.wp_machine.specs.Machine.{locks_step};
-ghost use Rattle.wp_machine_permits.specs.Each.{Each};
 ghost use Rattle.wp_machine_permits.specs.Offered.{IsOffered};
-ghost use Rattle.wp_machine_permits.specs.Permits.{MayBeLeft};
 
 use crate::needs::{has_direct, has_locked, may_find};
 use crate::permitted::history::history_of;
 use crate::permitted::publishing::has_transaction;
 use std::alloc::AllocError;
-use wp_history::History;
-use wp_machine::{Actor, LocksStep, Transaction, Turn, World};
+use wp_machine::{Actor, LocksStep, Turn, World};
 use wp_model::{Key, Name, Seq};
 
 /// The name is that of the undecided prepare with this number.
@@ -27,29 +24,14 @@ fn is_named(world: &World, name: &Name, p: Seq) -> Result<bool, AllocError>
     Ok(history.named(name) == Some(p))
 }
 
-/// The undecided prepare with that number holds each of the keys.
-fn are_of(history: &History, keys: &[Key], p: Seq) -> bool
-    ensures { result ≡ true → Each (λ key. holder_of history.now.entries key ≡ Some p) keys.now }
-{
-    for key in keys {
-        if history.holder_of(key) != Some(p) {
-            return false;
-        }
-    }
-    true
-}
-
-/// An undecided prepare has the name, and changes each key that the transaction locked.
-fn may_be_left(world: &World, transaction: &Transaction, name: &Name) -> Result<bool, AllocError>
-    ensures { IfOk result (λ yes. yes ≡ true → MayBeLeft world.now.writes.history name.now transaction.now) }
+/// An undecided prepare has the name.
+fn is_prepared(world: &World, name: &Name) -> Result<bool, AllocError>
+    ensures { IfOk result (λ yes. yes ≡ true → is_some (named world.now.writes.history name.now) ≡ true) }
 {
     let Some(history) = history_of(world)? else {
         return Ok(false);
     };
-    match history.named(name) {
-        Some(p) => Ok(are_of(&history, &transaction.locked, p)),
-        None => Ok(false),
-    }
+    Ok(history.named(name).is_some())
 }
 
 /// No undecided prepare has the name.
@@ -75,14 +57,11 @@ fn may_take_name(world: &World, by: usize, name: &Name, p: Seq) -> Result<bool, 
 fn may_leave_name(world: &World, by: usize, actor: &Actor, name: &Name) -> Result<bool, AllocError>
     ensures { IfOk result (λ yes. yes ≡ true → IsOffered world.now by actor.now (Some (step.leave_name name.now))) }
 {
-    let Some(transaction) = actor.participant.transaction(name) else {
-        return Ok(false);
-    };
-    if !world.holders.holds(Turn::Locks, by) {
+    if !world.holders.holds(Turn::Locks, by) || !has_transaction(actor, name) {
         return Ok(false);
     }
-    let left = may_be_left(world, transaction, name)?;
-    Ok(left)
+    let prepared = is_prepared(world, name)?;
+    Ok(prepared)
 }
 
 fn may_free_transaction(

@@ -5,22 +5,27 @@ ghost use Rattle.std.specs.FinSet as set;
 ghost use Rattle.wp_model.specs.Batch.{key_of};
 ghost use Rattle.wp_model.specs.History.{is_changed};
 ghost use Rattle.wp_model.specs.Legal.{IsLegalNext};
+ghost use Rattle.wp_model.specs.declared.change.Change.{Change};
 ghost use Rattle.wp_model.specs.declared.entry.Entry.{Entry};
+ghost use Rattle.wp_model.specs.declared.entry.Entry.TheVariants.{Prepare};
+ghost use Rattle.wp_model.specs.declared.holder.Holder.TheVariants.{Txn};
 ghost use Rattle.wp_judge.specs.Words.{CommitPair, commit_pair};
 ghost use Rattle.wp_core.specs.Sound.Prepared.{IsWide, IsEntered};
 ghost use Rattle.wp_core.specs.Conditions.{IsPrepare};
 ghost use Rattle.wp_core.specs.Entries.{changes_under, written, transaction_of, pair_by};
+ghost use Rattle.wp_core.specs.Lists.{IsIn};
+ghost use Rattle.wp_core.specs.Views.{locked};
 ghost use Rattle.wp_machine.specs.Machine.{published_step};
 ghost use Rattle.wp_machine_permits.specs.Offered.{IsOffered};
 ghost use Rattle.wp_machine_permits.specs.Each.{Each};
-ghost use Rattle.wp_machine_permits.specs.Permits.{IsEntitled, IsHeldKey, IsLocked, IsMade, IsOwned, IsOwner};
+ghost use Rattle.wp_machine_permits.specs.Permits.{LockedItsKeys, IsEntitled, IsHeldKey, IsLocked, IsMade, IsOwned, IsOwner};
 
 use crate::needs::{self, cached, has_direct, has_locked, has_versions_of};
 use crate::permitted::evicting::fits_no_word;
 use crate::permitted::history::{history_of, may_follow};
 use std::alloc::AllocError;
 use wp_history::History;
-use wp_machine::{Actor, Transaction, Turn, World};
+use wp_machine::{Actor, Event, Found, Transaction, Turn, World};
 use wp_model::{Batch, Change, Entry, Holder, Key, Name, Seq};
 
 /// The changes whose keys the entry needs.
@@ -136,7 +141,67 @@ fn is_of_own(world: &World, actor: &Actor, of: Option<&Name>, batch: &Batch) -> 
     }
 }
 
-/// The entry may come next, the keys of a Write are held for the actor, and its transaction is the actor's.
+/// The event is that the key was locked for the transaction.
+fn is_lock(event: &Event, name: &Name, key: &Key) -> bool
+    ensures { result ≡ true → event.now ≡ locked key.now (Txn name.now) }
+{
+    match &event.what {
+        Found::Locked(other, Holder::Txn(txn)) => other == key && txn == name,
+        _ => false,
+    }
+}
+
+fn was_locked(past: &[Event], name: &Name, key: &Key) -> bool
+    ensures { result ≡ true → IsIn (locked key.now (Txn name.now)) past.now }
+{
+    for event in past {
+        if is_lock(event, name, key) {
+            return true;
+        }
+    }
+    false
+}
+
+fn were_locked(past: &[Event], name: &Name, keys: &[Key]) -> bool
+    ensures { result ≡ true → Each (λ key. IsIn (locked key (Txn name.now)) past.now) keys.now }
+{
+    for key in keys {
+        if !was_locked(past, name, key) {
+            return false;
+        }
+    }
+    true
+}
+
+/// Each key that the transaction locked is in the past as locked for this name.
+fn locked_all(past: &[Event], name: &Name, transaction: &Transaction) -> bool
+    ensures { result ≡ true → (key : List ℕ) → set.contains transaction.now.locked key ≡ true → IsIn (locked key (Txn name.now)) past.now }
+{
+    were_locked(past, name, &transaction.locked)
+}
+
+/// The actor locked each key of its transaction itself, where it has it.
+fn locked_them(actor: &Actor, name: &Name) -> bool
+    ensures { result ≡ true → LockedItsKeys actor.now name.now }
+{
+    match actor.participant.transaction(name) {
+        Some(transaction) => locked_all(&actor.participant.past, name, transaction),
+        None => true,
+    }
+}
+
+/// Who prepares a transaction locked each of its keys itself.
+fn came_to_keys(actor: &Actor, entry: &Entry) -> bool
+    ensures { result ≡ true → (name : List ℕ) (batch : List Change) → entry.now ≡ Prepare name batch → LockedItsKeys actor.now name }
+{
+    match entry {
+        Entry::Prepare(name, _) => locked_them(actor, name),
+        Entry::Write(_) | Entry::Commit(_) | Entry::Undo(_, _) | Entry::Close(_) => true,
+    }
+}
+
+/// The entry may come next, the keys of a Write are held for the actor, its transaction is the actor's, and who prepares one locked
+/// its keys itself.
 fn is_entitled(world: &World, actor: &Actor, entry: &Entry) -> Result<bool, AllocError>
     ensures { IfOk result (λ entitled. entitled ≡ true → IsEntitled world.now actor.now entry.now) }
 {
@@ -146,7 +211,7 @@ fn is_entitled(world: &World, actor: &Actor, entry: &Entry) -> Result<bool, Allo
     if !may_follow(&history, entry) {
         return Ok(false);
     }
-    if !has_written(world, &history, actor, entry) {
+    if !has_written(world, &history, actor, entry) || !came_to_keys(actor, entry) {
         return Ok(false);
     }
     let batch = changes_under(&history, entry);
