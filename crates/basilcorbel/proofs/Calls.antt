@@ -10,12 +10,13 @@ use Rattle.wp_shared.specs.Seats.{SharedState, SeatState}
 use Rattle.wp_open_txns.specs.Calls.{Changes}
 use Rattle.wp_open_txns.specs.Txn.{OpenState, HasOpen}
 use Rattle.wp_open_txns.specs.declared.error.TxnError.{TxnError}
-use Rattle.wp_open_txns.specs.declared.error.TxnError.TheVariants.{Memory, Busy, TooMany}
+use Rattle.wp_open_txns.specs.declared.error.TxnError.TheVariants.{Memory, Busy, Conflict, TooMany}
 
 pub stays_open : {D : Type 0} (z : SharedState D) (old new : SeatState) (txn left : OpenState) (change : Change) (answer : Result (Unit {0}) TxnError) → Changes z old txn change answer new left → HasOpen new left
-stays_open z old new txn left change (Ok done) c = c.2
-stays_open z old new txn left change (Err TooMany) c = c.2
-stays_open z old new txn left change (Err (Busy holder)) c = c.2
+stays_open z old new txn left change (Ok done) c = c.1
+stays_open z old new txn left change (Err TooMany) c = c.1
+stays_open z old new txn left change (Err (Busy holder)) c = c.1
+stays_open z old new txn left change (Err (Conflict number)) c = c.1
 stays_open z old new txn left change (Err Memory) c = c.1
 stays_open z old new txn left change (Err other) c = absurd c
 

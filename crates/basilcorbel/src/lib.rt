@@ -8,17 +8,20 @@
 //! - A transaction: `begin` claims a name, `stage` puts a key or deletes it, under a lock, `prepare` writes the changes to the log, and
 //!   `commit` or `rollback` decides them. `commit_now` does without a prepare. `abandon` drops an open one. `leave` gives up a prepared
 //!   one, which outlives the store, and `take_prepared` takes it by its name, in this run or a later one.
+//! - Its pin: `pin` gives an open transaction a snapshot, `OpenTxn::pinned`. A key that comes to it then, by `stage` or by `lock`, which
+//!   reads it under a lock, has to be unchanged since: else `TxnError::Conflict`. So who reads by `lock` alone is serializable.
 //! - One change at once, by itself: `write`.
-//! - Reads: `snapshot` pins a moment of all keys, `get` reads one there, `release` lets go of it. `begin_read` reads one key as of now.
+//! - Reads: `snapshot` pins a moment of all keys, `get` reads one there, `release` lets go of it. `get_now` reads one key as of now,
+//!   and `begin_read` begins to.
 //! - Between clients: what one has told under a label with `tell`, another sees behind `hear`.
 //! - Upkeep: `flush` moves what is in memory into a table, `compact` makes one table of all, and `renew` begins the log anew.
 //! - The end: `Shared::finish` takes all seats back, and hands out the history and the devices.
 //!
 //! Transactions, snapshots and seats are values that have to be spent: where a call refuses, it hands back what it was handed. A key has 1
-//! to 64 bytes, a value 1 to 256 and a name 1 to 32, each from 21 to 7E (hexadecimal); a transaction changes at most 64 keys. Each refusal is
-//! a value (`OpenError`, `TxnError`, `MaintError`, `RenewError`, or want of memory), and each contract says when it comes and what it
-//! leaves. Before a call a seat has to be free, which each call leaves it: it holds no turn (`IsFree`); and at the end all seats have to be
-//! there (`AllFree`, `AreAll`). The modules with these words are passed on with the calls.
+//! to 64 bytes, a value 1 to 256 and a name 1 to 32, each from 21 to 7E (hexadecimal); a transaction changes and locks at most 64 keys.
+//! Each refusal is a value (`OpenError`, `TxnError`, `MaintError`, `RenewError`, or want of memory), and each contract says when it comes
+//! and what it leaves. Before a call a seat has to be free, which each call leaves it: it holds no turn (`IsFree`); and at the end all
+//! seats have to be there (`AllFree`, `AreAll`). The modules with these words are passed on with the calls.
 #![tactic(auto)]
 
 pub use wp_compact::compact;
@@ -30,12 +33,12 @@ pub use wp_model::{
 };
 pub use wp_opened::open_shared;
 pub use wp_outside::{Device, Disk, Disks, Failed, Peek};
-pub use wp_read::{Begun, Snapshot, begin_read, get, release, snapshot};
+pub use wp_read::{Begun, Snapshot, begin_read, get, get_now, release, snapshot};
 pub use wp_real::FileDisk;
 pub use wp_refused::{Bad, OpenError, OpenRefused};
 pub use wp_renew::renew;
 pub use wp_shared::{Finished, Seat, Shared};
 pub use wp_txn::{
-    OpenTxn, PreparedTxn, Refused, TxnError, abandon, begin, commit, commit_now, hear, leave,
-    prepare, rollback, stage, take_prepared, tell, write,
+    Locked, OpenTxn, PreparedTxn, Refused, TxnError, abandon, begin, commit, commit_now, hear,
+    leave, lock, pin, prepare, rollback, stage, take_prepared, tell, write,
 };

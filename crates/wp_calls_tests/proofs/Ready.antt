@@ -7,7 +7,7 @@ use Rattle.wp_model.specs.declared.change.Change.{Change}
 use Rattle.wp_model.specs.declared.entry.Entry.{Entry}
 use Rattle.wp_model.specs.declared.entry.Entry.TheVariants.{Write}
 use Rattle.wp_model.specs.Batch.{key_of}
-use Rattle.wp_model.specs.History.{entry_at, is_changed}
+use Rattle.wp_model.specs.History.{entry_at}
 use Rattle.wp_model.proofs.Entries.{entry_at_old, entry_at_past}
 use Rattle.wp_history_laws.proofs.Growth.{entry_at_next, length_next}
 use Rattle.wp_core.specs.Lists.{IsIn}
@@ -20,9 +20,9 @@ use Rattle.wp_core.proofs.KeepsSeen.{shorter}
 use Rattle.wp_shared.specs.Calls.{ContinuesWith, Continues, IsLoose}
 use Rattle.wp_shared.specs.Seats.{SharedState, SeatState}
 use Rattle.wp_open_txns.specs.declared.error.TxnError.{TxnError}
-use Rattle.wp_open_txns.specs.declared.error.TxnError.TheVariants.{Memory, Busy, TooMany, NumbersFull, LogFault, Stopped}
+use Rattle.wp_open_txns.specs.declared.error.TxnError.TheVariants.{Memory, Busy, TooMany, Conflict, NumbersFull, LogFault, Stopped}
 use Rattle.wp_open_txns.specs.Calls.{Changes, locking}
-use Rattle.wp_open_txns.specs.Txn.{OpenState, PreparedState, HasOpen, HasPrepared}
+use Rattle.wp_open_txns.specs.Txn.{OpenState, PreparedState, has_key, HasOpen, HasPrepared}
 use Rattle.wp_txn.specs.Writes.{Refuses, WritesDirect}
 use Rattle.wp_calls_tests.specs.Ready.{IsReader, IsWriter}
 
@@ -96,9 +96,10 @@ module _ {D : Type 0} (z : SharedState D) (old new : SeatState) (direct : old.kn
   locking_direct false name key x = refl
 
   pub changed : (txn : OpenState) (change : Change) (answer : Result (Unit {0}) TxnError) (left : OpenState) → Changes z old txn change answer new left → IsWriter z new (Some left) None
-  changed txn change (Ok done) left c = wrote IsLoose _ c.3 (Some left) None (locking_direct (is_changed txn.batch (key_of change)) txn.name (key_of change) old.knows.participant ∙ direct) c.2 tt
-  changed txn change (Err TooMany) left c = wrote IsLoose _ c.3 (Some left) None direct c.2 tt
-  changed txn change (Err (Busy holder)) left c = wrote IsLoose _ c.5.goes_on (Some left) None direct c.2 tt
+  changed txn change (Ok done) left c = wrote IsLoose _ c.3 (Some left) None (locking_direct (has_key txn.batch txn.locked (key_of change)) txn.name (key_of change) old.knows.participant ∙ direct) c.1 tt
+  changed txn change (Err TooMany) left c = wrote IsLoose _ c.3 (Some left) None direct c.1 tt
+  changed txn change (Err (Busy holder)) left c = wrote IsLoose _ c.5.goes_on (Some left) None direct c.1 tt
+  changed txn change (Err (Conflict number)) left c = wrote IsLoose _ c.4.goes_on (Some left) None direct c.1 tt
   changed txn change (Err Memory) left c = wrote IsLoose _ c.2 (Some left) None direct c.1 tt
   changed txn change (Err other) left c = absurd c
 

@@ -54,6 +54,15 @@ freed_one es ns keys changes i change within is so_far updated =
     ∙ sym (fold-append (λ (left : Keys) (key : List ℕ). finite.remove left key) keys (map key_of (take i changes)) (key_of change ∷ []))
     ∙ ap (keys_without keys) (sym (map-append key_of (take i changes) (change ∷ [])) ∙ ap (map key_of) (ap (λ (x : Change). take i changes ++ x ∷ []) is ∙ sym (take_more changes i change within)))
 
+-- likewise one key more
+pub freed_key : (es ns : List (List ℕ × Holder)) (keys : Keys) (freed : List (List ℕ)) (i : ℕ) (key : List ℕ) → i < length freed → key ≡ get_or freed i key → map_of es ≡ keys_without keys (take i freed) → UpdatedAt es ns key None
+    → map_of ns ≡ keys_without keys (take (i + 1) freed)
+freed_key es ns keys freed i key within is so_far updated =
+    map_of_removed es ns key updated
+    ∙ ap (λ (ks : Keys). finite.remove ks key) so_far
+    ∙ sym (fold-append (λ (left : Keys) (k : List ℕ). finite.remove left k) keys (take i freed) (key ∷ []))
+    ∙ ap (keys_without keys) (ap (λ (x : List ℕ). take i freed ++ x ∷ []) is ∙ sym (take_more freed i key within))
+
 -- the state with other keys that equal its own
 pub with_keys : (t : LockState) (keys : Keys) → t.keys ≡ keys → t ≡ record t { keys = keys }
 with_keys t keys is = ap (λ ks. record t { keys = ks }) is

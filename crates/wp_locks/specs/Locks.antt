@@ -1,14 +1,18 @@
 -- The live names, the held keys and the board.
-use Rattle.std.specs.Prelude.{◌≡◌, ℕ, Bool, true, false, List, ◌++◌, fold, Option, Some, None, is_some, Result, Ok, Err, if◌then◌else◌}
+use Rattle.std.specs.Prelude.{◌≡◌, ◌&&◌, ℕ, Bool, true, false, not, List, [], ◌∷◌, ◌++◌, fold, Option, Some, None, is_some, Result, Ok, Err, if◌then◌else◌}
+use Rattle.std.specs.Str.{bytes_eq}
 use Rattle.std.specs.FinMap as map
 use Rattle.std.specs.BTreeMap as tree
 use Rattle.wp_model.specs.Batch.{key_cmp}
+use Rattle.wp_model.specs.declared.change.Change.{Change}
 use Rattle.wp_model.specs.declared.holder.Holder.{Holder}
+use Rattle.wp_model.specs.declared.holder.Holder.TheVariants.{Txn, Client}
+use Rattle.wp_model.specs.History.{is_changed}
 use Rattle.wp_locks.specs.declared.error.LockError.{LockError}
 use Rattle.wp_locks.specs.declared.error.LockError.TheVariants.{Memory, Taken, Unknown, InUse, Busy}
 use Rattle.wp_locks.specs.declared.error.TakeRefused.{TakeRefused}
 use Rattle.wp_model.specs.Holder.{is_same_txn}
-use Rattle.wp_model.specs.LockState.{Names, Keys, LockState}
+use Rattle.wp_model.specs.LockState.{Names, Keys, LockState, is_among_keys}
 
 -- what `claim_name` answers, and what it leaves
 abbrev pub Claims : LockState → List ℕ → List ℕ → Result (Unit {0}) LockError → LockState → Type 0
@@ -51,6 +55,22 @@ Locking old key holder (Err (InUse used)) new = ⊥
 -- the held keys without these
 abbrev pub keys_without : Keys → List (List ℕ) → Keys
 keys_without held keys = fold (λ left key. map.remove left key) held keys
+
+-- none of the keys is there twice
+abbrev pub AreOnce : List (List ℕ) → Type 0
+AreOnce [] = Unit {0}
+AreOnce (key ∷ keys) = (is_among_keys keys key ≡ false) × AreOnce keys
+
+-- the key, with its holder, is held for the transaction of this name, and the batch does not change it
+abbrev pub is_beyond : List ℕ → List Change → List ℕ → Holder → Bool
+is_beyond name batch key (Txn other) = bytes_eq other name && not (is_changed batch key)
+is_beyond name batch key (Client other) = false
+
+-- just the keys that are held for the transaction of this name and that the batch does not change, each once
+pub record AreBeyond (t : LockState) (name : List ℕ) (batch : List Change) (keys : List (List ℕ)) : Type 0 where
+  pub held : (key : List ℕ) → is_among_keys keys key ≡ true → (map.get t.keys key ≡ Some (Txn name)) × (is_changed batch key ≡ false)
+  pub all : (key : List ℕ) → map.get t.keys key ≡ Some (Txn name) → is_changed batch key ≡ false → is_among_keys keys key ≡ true
+  pub once : AreOnce keys
 
 -- the entries come before those of the tree: what is under a key is what they have first, and then its own
 abbrev pub Joins : {X : Type 0} → List (List ℕ × X) → tree.BTreeMap (List ℕ) X → tree.BTreeMap (List ℕ) X → Type 0

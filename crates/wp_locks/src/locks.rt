@@ -2,7 +2,7 @@ ghost use Rattle.std.specs.Prelude.{◌≡◌, map, IfOk, OnOk, OnErr};
 ghost use Rattle.std.specs.FinMap as finite;
 ghost use Rattle.std.specs.FinMap.{from_entries};
 ghost use Rattle.wp_model.specs.Batch.{key_cmp, key_of};
-ghost use Rattle.wp_locks.specs.Locks.{Claims, TakesName, Locking, names_left, keys_without};
+ghost use Rattle.wp_locks.specs.Locks.{AreBeyond, Claims, TakesName, Locking, is_beyond, names_left, keys_without};
 ghost use Rattle.wp_model.specs.LockState.{nothing_locked};
 ghost use Rattle.wp_history_laws.specs.Opened.{AreOpened};
 
@@ -12,7 +12,7 @@ use std::alloc::{AllocError, Global};
 use std::collections::BTreeMap;
 use std::marker::Model;
 use wp_history::History;
-use wp_model::{Change, Holder, Key, Name, Seq};
+use wp_model::{Batch, Change, Holder, Key, Name, Seq};
 
 /// The live names, the held keys and the board, which the holder of the locks turn changes.
 pub struct Locks {
@@ -40,6 +40,25 @@ fn free_keys(keys: &mut BTreeMap<Key, Holder>, changes: &[Change])
 {
     for change in changes {
         keys.remove(change.key());
+    }
+}
+
+/// Frees each of the keys.
+fn free_each(keys: &mut BTreeMap<Key, Holder>, freed: &[Key])
+    ensures { from_entries {R = key_cmp} keys.new.entries ≡ keys_without (from_entries keys.old.entries) freed.now }
+{
+    for key in freed {
+        keys.remove(key);
+    }
+}
+
+/// Whether the key, which this one holds, is held for the transaction of this name, and the batch does not change it.
+fn is_beyond(key: &Key, holder: &Holder, name: &Name, batch: &Batch) -> bool
+    ensures { result ≡ is_beyond name.now batch.now key.now holder.now }
+{
+    match holder {
+        Holder::Txn(other) => other == name && batch.get(key).is_none(),
+        Holder::Client(_) => false,
     }
 }
 
@@ -142,6 +161,27 @@ impl Locks {
         ensures { self.new ≡ record self.old { keys = keys_without self.old.keys (map key_of changes.now) } }
     {
         free_keys(&mut self.keys, changes);
+    }
+
+    /// Frees each of the keys, whoever holds it, in the same time.
+    pub fn unlock_keys(&mut self, keys: &[Key])
+        ensures { self.new ≡ record self.old { keys = keys_without self.old.keys keys.now } }
+    {
+        free_each(&mut self.keys, keys);
+    }
+
+    /// The keys that are held for the transaction of this name and that the batch does not change, ascending. It passes over all held
+    /// keys.
+    pub fn keys_of(&self, name: &Name, batch: &Batch) -> Result<Vec<Key>, AllocError>
+        ensures { IfOk result (λ keys. AreBeyond self.now name.now batch.now keys.items) }
+    {
+        let mut keys = Vec::new(self.alloc);
+        for (key, holder) in &self.keys {
+            if is_beyond(key, holder, name, batch) {
+                keys.push(key.copy(self.alloc)?)?;
+            }
+        }
+        Ok(keys)
     }
 
     /// Puts the number under the label, in place of an earlier one.

@@ -1,185 +1,261 @@
--- A change that comes to an open transaction.
-use Rattle.std.proofs.Common.{◌≡◌, ℕ, Bool, true, false, true≢false, cond, ◌||◌, List, [], ◌∷◌, refl, sym, subst, ap, ◌∙◌, Option, Some, None, is_some}
-use Rattle.std.specs.Prelude.{unwrap_or, Result, Ok, Err}
+-- A key that comes to an open transaction, and a change.
+use Rattle.std.proofs.Common.{◌≡◌, ℕ, ◌+◌, ◌≤◌, ◌<◌, nat_le, Bool, true, false, true≢false, ◌||◌, List, [], ◌∷◌, ◌++◌, length, refl, sym, subst, ap, ◌∙◌, Option, Some, None, is_some, arith}
+use Rattle.std.specs.Prelude.{unwrap_or, Result, Ok, Err, if◌then◌else◌}
 use Rattle.std.specs.FinSet as set
 use Rattle.std.specs.FinMap as finite
-use Rattle.std.specs.Ordering.{eq_by_cmp, is_eq}
 use Rattle.std.specs.Str.{bytes_eq}
-use Rattle.std.specs.declared.cmp.Ordering.{Ordering}
-use Rattle.std.specs.declared.cmp.Ordering.TheVariants.{Less, Equal, Greater}
+use Rattle.std.proofs.lemmas.Bool.{and_parts}
 use Rattle.std.proofs.lemmas.Cmp.{nat_list_cmp_total}
-use Rattle.std.proofs.lemmas.Map.Text.{is_eq-slice_cmp}
 use Rattle.std.proofs.lemmas.Slice.Eq.{bytes_eq-Decides}
-use Rattle.wp_model.specs.Batch.{key_cmp, key_of, value_of, change_to, by_order, with_change}
+use Rattle.wp_model.specs.declared.batch.TheConstants.{MOST_KEYS}
+use Rattle.wp_model.specs.Batch.{key_of, with_change, are_ascending, is_batch}
+use Rattle.wp_model.specs.Changed.{IsUnchanged}
 use Rattle.wp_model.specs.Holder.{is_same_txn}
 use Rattle.wp_model.specs.History.{is_changed}
-use Rattle.wp_model.specs.LockState.{LockState}
+use Rattle.wp_model.specs.LockState.{LockState, is_among_keys}
 use Rattle.wp_model.specs.declared.change.Change.{Change}
 use Rattle.wp_model.specs.declared.entry.Entry.{Entry}
 use Rattle.wp_model.specs.declared.holder.Holder.{Holder}
 use Rattle.wp_model.specs.declared.holder.Holder.TheVariants.{Txn}
-use Rattle.wp_model.proofs.Words.{same_word}
-use Rattle.wp_core.specs.Lists.{IsIn}
-use Rattle.wp_core.specs.Views.{unprepared}
-use Rattle.wp_core.specs.States.{locks}
-use Rattle.wp_core.specs.Turns.{locks_turn}
-use Rattle.wp_core.specs.World.{Transaction, Participant}
 use Rattle.wp_model.proofs.Keyed.{at_inserted}
+use Rattle.wp_core.specs.Lists.{IsIn}
+use Rattle.wp_core.specs.Reading.{Registration}
+use Rattle.wp_core.specs.Views.{Event, Fact, locked, unchanged, unprepared}
+use Rattle.wp_core.specs.World.{Transaction, Participant}
+use Rattle.wp_core.proofs.PastsGrow.{in_front, in_last}
 use Rattle.wp_shared.specs.Seats.{SharedState, SeatState}
-use Rattle.wp_shared.specs.Calls.{Continues}
+use Rattle.wp_shared.specs.Calls.{Continues, with_events}
 use Rattle.wp_shared.specs.Notes.{seat_of}
-use Rattle.wp_shared.specs.Turns.{Taken, Given}
 use Rattle.wp_open_txns.specs.declared.error.TxnError.{TxnError}
 use Rattle.wp_open_txns.specs.declared.error.TxnError.TheVariants as why
-use Rattle.wp_open_txns.specs.Actors.{no_changes, transaction_in, with_key_locked, with_locked, with_batch}
-use Rattle.wp_open_txns.specs.Calls.{with_transaction, IsFull, locking, changing, Changes}
-use Rattle.wp_open_txns.specs.Keys.{HoldsKey}
-use Rattle.wp_open_txns.specs.Txn.{OpenState, HasOpen}
-use Rattle.wp_open_txns.specs.Under.{LocksKey}
-use Rattle.wp_open_txns.proofs.Still.{still, open_still}
-use Rattle.wp_open_txns.proofs.GoesOn.{locks_found, with_locks, under, back_at_once, nothing_done, finds}
+use Rattle.wp_open_txns.specs.Actors.{no_changes, transaction_in, with_key_locked, with_batch}
+use Rattle.wp_open_txns.specs.Calls.{with_transaction, IsFull, locking, with_changed, with_locked_key, ComesFree, Keeps, RefusesKey, Changes}
+use Rattle.wp_open_txns.specs.Keys.{TakesKey, ComesTo}
+use Rattle.wp_open_txns.specs.Txn.{OpenState, has_key, AreFew, IsSince, HasOpen}
+use Rattle.wp_open_txns.proofs.Keys.{same_key, keys_but, has_with_change, has_with_key, none_more, few_with_change, few_with_key}
+use Rattle.wp_open_txns.proofs.Still.{HasStill, still, longer, pinned_still, since_still, open_still}
 
--- ---- which keys a batch changes with one change more
-
-some_of : {X : Type 0} (t : Bool) (x : X) (o : Option X) → is_some (cond t (Some x) o) ≡ (t || is_some o)
-some_of true x o = refl
-some_of false x o = refl
-
-either_way : (s t u : Bool) → (s || (t || u)) ≡ (t || (s || u))
-either_way true true u = refl
-either_way true false u = refl
-either_way false true u = refl
-either_way false false u = refl
-
-twice : (t u : Bool) → (t || (t || u)) ≡ (t || u)
-twice true u = refl
-twice false u = refl
-
-pub changed_one : (change : Change) (others : List Change) (k : List ℕ) → is_changed (change ∷ others) k ≡ (bytes_eq (key_of change) k || is_changed others k)
-changed_one change others k = some_of (bytes_eq (key_of change) k) (value_of change) (change_to others k)
-
-either_turned : (a b : List ℕ) → bytes_eq a b ≡ bytes_eq b a
-either_turned a b = by (bytes_eq a b) refl (bytes_eq b a) refl
-  where
-    by : (s : Bool) → bytes_eq a b ≡ s → (t : Bool) → bytes_eq b a ≡ t → s ≡ t
-    by true e true f = refl
-    by false e false f = refl
-    by true e false f = sym ((bytes_eq-Decides b a).1 (sym ((bytes_eq-Decides a b).0 e))) ∙ f
-    by false e true f = sym e ∙ (bytes_eq-Decides a b).1 (sym ((bytes_eq-Decides b a).0 f))
-
--- ... as the sets of keys compare them
-same_key : (a b : List ℕ) → bytes_eq a b ≡ eq_by_cmp key_cmp b a
-same_key a b = either_turned a b ∙ sym (is_eq-slice_cmp b a)
-
-changed_with : (batch : List Change) (change : Change) (k : List ℕ) → is_changed (with_change batch change) k ≡ (bytes_eq (key_of change) k || is_changed batch k)
-changed_with [] change k = changed_one change [] k
-changed_with (first ∷ others) change k = by (changed_with others change k) (key_cmp (key_of change) (key_of first)) refl
-  where
-    by : is_changed (with_change others change) k ≡ (bytes_eq (key_of change) k || is_changed others k) → (o : Ordering) → key_cmp (key_of change) (key_of first) ≡ o
-        → is_changed (by_order o (change ∷ first ∷ others) (change ∷ others) (first ∷ with_change others change)) k ≡ (bytes_eq (key_of change) k || is_changed (first ∷ others) k)
-    by rest Less e = changed_one change (first ∷ others) k
-    by rest Equal e =
-        let same : key_of change ≡ key_of first = same_word (key_of change) (key_of first) (ap is_eq e) in
-        changed_one change others k ∙ sym (twice (bytes_eq (key_of change) k) (is_changed others k))
-        ∙ ap (λ (t : Bool). bytes_eq (key_of change) k || t) (ap (λ (key : List ℕ). bytes_eq key k || is_changed others k) same ∙ sym (changed_one first others k))
-    by rest Greater e =
-        changed_one first (with_change others change) k ∙ ap (λ (t : Bool). bytes_eq (key_of first) k || t) rest
-        ∙ either_way (bytes_eq (key_of first) k) (bytes_eq (key_of change) k) (is_changed others k)
-        ∙ ap (λ (t : Bool). bytes_eq (key_of change) k || t) (sym (changed_one first others k))
-
--- where the key has a change already, no other key gets one
-none_more : (batch : List Change) (key k : List ℕ) → is_changed batch key ≡ true → (bytes_eq key k || is_changed batch k) ≡ is_changed batch k
-none_more batch key k there = by (bytes_eq key k) refl
-  where
-    by : (t : Bool) → bytes_eq key k ≡ t → (t || is_changed batch k) ≡ is_changed batch k
-    by true e = sym (ap (is_changed batch) (sym ((bytes_eq-Decides key k).0 e)) ∙ there)
-    by false e = refl
+either_true : (a b : Bool) → b ≡ true → (a || b) ≡ true
+either_true true b is = refl
+either_true false b is = is
 
 -- ---- the transaction with the key
 
-module _ {D : Type 0} (z : SharedState D) (old : SeatState) (txn : OpenState) (h : HasOpen old txn) where
+-- a seat that went on with the key, or as it was where the transaction has it
+module _ {D : Type 0} (z : SharedState D) (old : SeatState) (txn : OpenState) (h : HasOpen old txn) (key : List ℕ) where
   abbrev name : List ℕ
   name = txn.name
 
   abbrev batch : List Change
   batch = txn.batch
 
-  pub is_there : is_some (finite.get old.knows.participant.transactions name) ≡ true
-  is_there = ap is_some h.has
+  abbrev it : Participant
+  it = old.knows.participant
 
-  it_is : transaction_in old.knows.participant name ≡ h.transaction
-  it_is = ap (λ (o : Option Transaction). unwrap_or o no_changes) h.has
+  -- the transaction as the participant has it
+  its : transaction_in it name ≡ h.transaction
+  its = ap (λ (o : Option Transaction). unwrap_or o no_changes) h.has
 
-  pub its_keys : (k : List ℕ) → set.contains (transaction_in old.knows.participant name).locked k ≡ is_changed batch k
-  its_keys k = ap (λ (x : Transaction). set.contains x.locked k) it_is ∙ h.keys k
+  abbrev with_it : Bool → Participant
+  with_it b = locking b name key it
 
-  module _ (key : List ℕ) where
-    pub locking_has : (b : Bool) → is_some (finite.get (locking b name key old.knows.participant).transactions name) ≡ true
-    locking_has true = is_there
-    locking_has false = ap is_some (at_inserted old.knows.participant.transactions name (with_key_locked key (transaction_in old.knows.participant name)) name refl)
+  -- it has the transaction in both cases, with the batch
+  pub locking_has : (b : Bool) → is_some (finite.get (with_it b).transactions name) ≡ true
+  locking_has true = ap is_some h.has
+  locking_has false = ap is_some (at_inserted it.transactions name (with_key_locked key (transaction_in it name)) name refl)
 
-    locking_keys : (b : Bool) → is_changed batch key ≡ b → (k : List ℕ) → set.contains (transaction_in (locking b name key old.knows.participant) name).locked k ≡ (bytes_eq key k || is_changed batch k)
-    locking_keys true e k = its_keys k ∙ sym (none_more batch key k e)
-    locking_keys false e k =
-        let x = with_key_locked key (transaction_in old.knows.participant name) in
-        ap (λ (o : Option Transaction). set.contains (unwrap_or o no_changes).locked k) (at_inserted old.knows.participant.transactions name x name refl)
-        ∙ set.contains-insert nat_list_cmp_total (transaction_in old.knows.participant name).locked key k
-        ∙ ap (λ (t : Bool). t || set.contains (transaction_in old.knows.participant name).locked k) (sym (same_key key k))
-        ∙ ap (λ (t : Bool). bytes_eq key k || t) (its_keys k)
+  pub locking_gets : (b : Bool) → finite.get (with_it b).transactions name ≡ Some (transaction_in (with_it b) name)
+  locking_gets true = h.has ∙ ap (λ (x : Transaction). Some x) (sym its)
+  locking_gets false = let x = with_key_locked key (transaction_in it name) in
+      let is = at_inserted it.transactions name x name refl in is ∙ ap (λ (o : Option Transaction). Some (unwrap_or o no_changes)) (sym is)
 
-  -- the seat has the key, and then the batch has the change
-  pub changed_it : (change : Change) (s new : SeatState) (changed : List Change) → Continues z old s (locking (is_changed batch (key_of change)) name (key_of change) old.knows.participant) → changed ≡ with_change batch change
-      → new ≡ seat_of s (with_batch name changed s.knows) → HasOpen new (record txn { batch = with_change batch change }) × Continues z old new (changing name batch change old.knows.participant)
-  changed_it change s new changed goes is set_it =
-      let q = locking (is_changed batch (key_of change)) name (key_of change) old.knows.participant in let x : Transaction = record (transaction_in q name) { batch = with_change batch change } in
-      let set_now : new ≡ seat_of s (with_batch name (with_change batch change) s.knows) = set_it ∙ ap (λ (b : List Change). seat_of s (with_batch name b s.knows)) is in
-      let seen : new.knows.participant.seen ≡ s.knows.participant.seen = ap (λ (y : SeatState). y.knows.participant.seen) set_now in
-      let p : new.knows.participant ≡ record (changing name batch change old.knows.participant) { seen = new.knows.participant.seen } =
-      ap (λ (y : SeatState). y.knows.participant) set_now
-      ∙ ap (λ (y : Participant). with_transaction name (record (transaction_in y name) { batch = with_change batch change }) y) goes.participant
-      ∙ ap (λ (entries : List Entry). record (changing name batch change old.knows.participant) { seen = entries }) (sym seen) in (
-        record {
-          transaction = x;
-          has = ap (λ (y : Participant). finite.get y.transactions name) p ∙ at_inserted q.transactions name x name refl;
-          batch_is = refl;
-          keys = λ k. locking_keys (key_of change) (is_changed batch (key_of change)) refl k ∙ sym (changed_with batch change k);
-          noted = subst (λ (y : SeatState). IsIn (unprepared name) y.knows.notes) (sym set_now) (goes.notes (unprepared name) refl h.noted);
-        },
-        record {
-          free = record {
-            same_table = ap (λ (y : SeatState). y.table) set_now ∙ goes.free.same_table;
-            live = ap (λ (y : SeatState). y.knows.live) set_now ∙ goes.free.live;
-            turns = ap (λ (y : SeatState). y.turns) set_now ∙ goes.free.turns;
-            held = ap (λ (y : SeatState). y.knows.held) set_now ∙ goes.free.held;
-          };
-          same_by = ap (λ (y : SeatState). y.by) set_now ∙ goes.same_by;
-          seen = (goes.seen.0, seen ∙ goes.seen.1);
-          participant = p;
-          notes = λ fact turnless there. subst (λ (y : SeatState). IsIn fact y.knows.notes) (sym set_now) (goes.notes fact turnless there);
-          made = ap (λ (y : SeatState). y.knows.made) set_now ∙ goes.made;
-          joined = ap (λ (y : SeatState). y.knows.joined) set_now ∙ goes.joined;
-        },
-      )
+  pub locking_batch : (b : Bool) → (transaction_in (with_it b) name).batch ≡ batch
+  locking_batch true = ap (λ (x : Transaction). x.batch) its ∙ h.batch_is
+  locking_batch false =
+      ap (λ (o : Option Transaction). (unwrap_or o no_changes).batch) (at_inserted it.transactions name (with_key_locked key (transaction_in it name)) name refl)
+      ∙ ap (λ (x : Transaction). x.batch) its ∙ h.batch_is
 
--- ---- what locking the key answers
+  -- its keys are those that it had, and this one
+  pub locking_keys : (b : Bool) → has_key batch txn.locked key ≡ b → (q : List ℕ) → set.contains (transaction_in (with_it b) name).locked q ≡ (bytes_eq key q || has_key batch txn.locked q)
+  locking_keys true there q = ap (λ (x : Transaction). set.contains x.locked q) its ∙ h.keys q ∙ sym (none_more batch txn.locked key q there)
+  locking_keys false new q =
+      let x = with_key_locked key (transaction_in it name) in
+      ap (λ (o : Option Transaction). set.contains (unwrap_or o no_changes).locked q) (at_inserted it.transactions name x name refl)
+      ∙ set.contains-insert nat_list_cmp_total (transaction_in it name).locked key q
+      ∙ ap (λ (t : Bool). t || set.contains (transaction_in it name).locked q) (sym (same_key key q))
+      ∙ ap (λ (t : Bool). bytes_eq key q || t) (ap (λ (y : Transaction). set.contains y.locked q) its ∙ h.keys q)
 
-not_own : (holder : Holder) (name : List ℕ) → is_same_txn holder (Txn name) ≡ false → holder ≡ Txn name → ⊥
-not_own holder name other same = true≢false (sym ((bytes_eq-Decides name name).1 refl) ∙ (ap (λ (x : Holder). is_same_txn x (Txn name)) (sym same) ∙ other))
+  locking_past : (b : Bool) (event : Event) → IsIn event it.past → IsIn event (with_it b).past
+  locking_past true event there = there
+  locking_past false event there = in_front event it.past (locked key (Txn name) ∷ []) there
 
-pub key_held : {D : Type 0} (z : SharedState D) (old : SeatState) (txn : OpenState) (key : List ℕ) (t u : LockState) (s r new : SeatState) (answer : Result (Unit {0}) TxnError) → Taken z old s (locks t) → is_changed txn.batch key ≡ false → LocksKey t s txn.name key answer u r → Given z locks_turn r new [] []
-    → HoldsKey z old txn key answer new
-key_held z old txn key t u s r new (Ok done) k none c gave = (
-  subst (λ (b : Bool). Continues z old new (locking b txn.name key old.knows.participant)) (sym none)
-      (back_at_once z old t s k (with_locked t txn.name key (with_locks t old).knows) r new (under z old t s k (with_locked t txn.name key) r c.1) gave refl refl refl (λ fact there. there)),
-  λ unchanged. locks_found z old s t (λ l. finite.get l.keys key ≡ None) k c.2,
-)
-key_held z old txn key t u s r new (Err (why.Busy holder)) k none c gave = (none, not_own holder txn.name c.1, finds z old t s k (Some key) holder r new c.3.0 c.0 c.3.1 c.3.2 gave)
-key_held z old txn key t u s r new (Err why.Memory) k none c gave = nothing_done z old t s k r new c.1 gave
-key_held z old txn key t u s r new (Err other) k none c gave = absurd c
+  locked_past : (b : Bool) → has_key batch txn.locked key ≡ b → IsIn (locked key (Txn name)) (with_it b).past
+  locked_past true there = h.came key there
+  locked_past false new = in_last (locked key (Txn name)) it.past
 
--- where the key was not locked the transaction is as it was
-pub not_changed : {D : Type 0} (z : SharedState D) (old : SeatState) (txn : OpenState) (change : Change) (new : SeatState) (reason : TxnError) → (IsFull txn.batch (key_of change) → ⊥) → HasOpen old txn → HoldsKey z old txn (key_of change) (Err reason) new
-    → Changes z old txn change (Err reason) new txn
-not_changed z old txn change new why.Memory room has c = (refl, open_still old new (still z old new old.knows.participant refl refl c) txn has, c)
-not_changed z old txn change new (why.Busy holder) room has c = (room, refl, open_still old new (still z old new _ refl refl c.2.goes_on) txn has, c.0, c.1, c.2)
-not_changed z old txn change new other room has c = absurd c
+  locking_registered : (b : Bool) → (with_it b).registered ≡ it.registered
+  locking_registered true = refl
+  locking_registered false = refl
+
+  -- what is so of the transaction with these changes and these keys, where the seat has it so, and knows since when the key is unchanged
+  module _ (b : Bool) (is : has_key batch txn.locked key ≡ b) (s : SeatState) (goes : Continues z old s (with_it b)) (since : IsSince s name key txn.pin) where
+    abbrev had : Transaction
+    had = transaction_in (with_it b) name
+
+    seen_on : HasStill old (record s { knows = record s.knows { participant = record s.knows.participant { transactions = it.transactions; direct = it.direct } } })
+    seen_on = record {
+      transactions = refl;
+      direct = refl;
+      seen = goes.seen;
+      notes = goes.notes;
+      past = λ event there. subst (λ (p : Participant). IsIn event p.past) (sym goes.participant) (locking_past b event there);
+    }
+
+    pub came_now : (q : List ℕ) → (bytes_eq key q || has_key batch txn.locked q) ≡ true → IsIn (locked q (Txn name)) s.knows.participant.past
+    came_now q has = subst (λ (p : Participant). IsIn (locked q (Txn name)) p.past) (sym goes.participant) (by (bytes_eq key q) refl has)
+      where
+        by : (t : Bool) → bytes_eq key q ≡ t → (t || has_key batch txn.locked q) ≡ true → IsIn (locked q (Txn name)) (with_it b).past
+        by true same there = subst (λ (k : List ℕ). IsIn (locked k (Txn name)) (with_it b).past) ((bytes_eq-Decides key q).0 same) (locked_past b is)
+        by false apart there = locking_past b (locked q (Txn name)) (h.came q there)
+
+    pub since_now : (q : List ℕ) → (bytes_eq key q || has_key batch txn.locked q) ≡ true → IsSince s name q txn.pin
+    since_now q has = by (bytes_eq key q) refl has
+      where
+        by : (t : Bool) → bytes_eq key q ≡ t → (t || has_key batch txn.locked q) ≡ true → IsSince s name q txn.pin
+        by true same there = subst (λ (k : List ℕ). IsSince s name k txn.pin) ((bytes_eq-Decides key q).0 same) since
+        by false apart there = let k = since_still old _ seen_on name q txn.pin (h.since q there) in record { number = k.number; noted = k.noted; seen = k.seen; pinned = k.pinned }
+
+    pub pinned_now : (r : Registration) → txn.pin ≡ Some r → IsIn r s.knows.participant.registered × (r.number ≤ length s.knows.participant.seen)
+    pinned_now r pin = let old_pin = h.pinned r pin in (
+      subst (IsIn r) (sym (ap (λ (p : Participant). p.registered) goes.participant ∙ locking_registered b)) old_pin.0,
+      (let low = old_pin.1 in let more = longer old _ seen_on in omega (arith, low, more)),
+    )
+
+    pub had_there : finite.get s.knows.participant.transactions name ≡ Some had
+    had_there = ap (λ (p : Participant). finite.get p.transactions name) goes.participant ∙ locking_gets b
+
+    -- the key is locked without a change
+    pub open_with_key : is_changed batch key ≡ false → (has_key batch txn.locked key ≡ false → length batch + length txn.locked < MOST_KEYS) → HasOpen s (with_locked_key txn key)
+    open_with_key none room = record {
+      transaction = had;
+      has = had_there;
+      batch_is = locking_batch b;
+      keys = λ q. locking_keys b is q ∙ sym (with_keys q);
+      noted = goes.notes (unprepared name) refl h.noted;
+      few = few_now (is_among_keys txn.locked key) refl;
+      came = λ q has. came_now q (sym (with_keys q) ∙ has);
+      since = λ q has. since_now q (sym (with_keys q) ∙ has);
+      pinned = pinned_now;
+    }
+      where
+        by : (t : Bool) → is_among_keys txn.locked key ≡ t → (q : List ℕ) → has_key batch (if t then txn.locked else txn.locked ++ key ∷ []) q ≡ (bytes_eq key q || has_key batch txn.locked q)
+        by true there q = sym (none_more batch txn.locked key q (either_true (is_changed batch key) (is_among_keys txn.locked key) there))
+        by false other q = has_with_key batch txn.locked key q
+
+        with_keys : (q : List ℕ) → has_key batch (with_locked_key txn key).locked q ≡ (bytes_eq key q || has_key batch txn.locked q)
+        with_keys q = by (is_among_keys txn.locked key) refl q
+
+        few_now : (t : Bool) → is_among_keys txn.locked key ≡ t → AreFew batch (if t then txn.locked else txn.locked ++ key ∷ [])
+        few_now true there = h.few
+        few_now false other = let new : has_key batch txn.locked key ≡ false = (λ i. none i || other i) in few_with_key batch txn.locked key h.few new (room new)
+
+    -- ... or the key has a change
+    module _ (new : SeatState) (changes : List Change) (set_it : new ≡ seat_of s (with_batch name changes s.knows)) where
+      abbrev with_changes : Transaction
+      with_changes = record had { batch = changes }
+
+      in_s : transaction_in s.knows.participant name ≡ had
+      in_s = ap (λ (p : Participant). transaction_in p name) goes.participant
+
+      new_seen : new.knows.participant.seen ≡ s.knows.participant.seen
+      new_seen = ap (λ (y : SeatState). y.knows.participant.seen) set_it
+
+      noted_new : (fact : Fact) → IsIn fact s.knows.notes → IsIn fact new.knows.notes
+      noted_new fact there = subst (λ (y : SeatState). IsIn fact y.knows.notes) (sym set_it) there
+
+      pub since_new : (q : List ℕ) → IsSince s name q txn.pin → IsSince new name q txn.pin
+      since_new q k = record { number = k.number; noted = noted_new (unchanged name q k.number) k.noted; seen = subst (λ (es : List Entry). k.number ≤ length es) (sym new_seen) k.seen; pinned = k.pinned }
+
+      pub open_with_change : (change : Change) → key_of change ≡ key → changes ≡ with_change batch change → are_ascending batch ≡ true → (has_key batch txn.locked key ≡ false → length batch + length txn.locked < MOST_KEYS) → HasOpen new (with_changed txn change)
+      open_with_change change key_is changes_are ascending room = record {
+        transaction = with_changes;
+        has = ap (λ (y : SeatState). finite.get y.knows.participant.transactions name) set_it
+            ∙ at_inserted s.knows.participant.transactions name (record (transaction_in s.knows.participant name) { batch = changes }) name refl
+            ∙ ap (λ (x : Transaction). Some (record x { batch = changes })) in_s;
+        batch_is = changes_are;
+        keys = λ q. locking_keys b is q ∙ sym (with_keys q);
+        noted = noted_new (unprepared name) (goes.notes (unprepared name) refl h.noted);
+        few = few_with_change batch txn.locked change ascending h.few (λ none. room (ap (has_key batch txn.locked) (sym key_is) ∙ none));
+        came = λ q has. subst (λ (y : SeatState). IsIn (locked q (Txn name)) y.knows.participant.past) (sym set_it) (came_now q (sym (with_keys q) ∙ has));
+        since = λ q has. since_new q (since_now q (sym (with_keys q) ∙ has));
+        pinned = λ r pin. let k = pinned_now r pin in (subst (λ (y : SeatState). IsIn r y.knows.participant.registered) (sym set_it) k.0, subst (λ (es : List Entry). r.number ≤ length es) (sym new_seen) k.1);
+      }
+        where
+          with_keys : (q : List ℕ) → has_key (with_change batch change) (keys_but (key_of change) txn.locked) q ≡ (bytes_eq key q || has_key batch txn.locked q)
+          with_keys q = has_with_change batch txn.locked change q ∙ ap (λ (k : List ℕ). bytes_eq k q || has_key batch txn.locked q) key_is
+
+      pub goes_with_change : Continues z old new (with_transaction name (record (transaction_in (with_it b) name) { batch = changes }) (with_it b))
+      goes_with_change = record {
+        free = record {
+          same_table = ap (λ (y : SeatState). y.table) set_it ∙ goes.free.same_table;
+          live = ap (λ (y : SeatState). y.knows.live) set_it ∙ goes.free.live;
+          turns = ap (λ (y : SeatState). y.turns) set_it ∙ goes.free.turns;
+          held = ap (λ (y : SeatState). y.knows.held) set_it ∙ goes.free.held;
+        };
+        same_by = ap (λ (y : SeatState). y.by) set_it ∙ goes.same_by;
+        seen = (goes.seen.0, new_seen ∙ goes.seen.1);
+        participant = ap (λ (y : SeatState). y.knows.participant) set_it
+            ∙ ap (λ (y : Participant). with_transaction name (record (transaction_in y name) { batch = changes }) y) goes.participant
+            ∙ ap (λ (entries : List Entry). record (with_transaction name (record (transaction_in (with_it b) name) { batch = changes }) (with_it b)) { seen = entries }) (sym new_seen);
+        notes = λ fact turnless there. noted_new fact (goes.notes fact turnless there);
+        made = ap (λ (y : SeatState). y.knows.made) set_it ∙ goes.made;
+        joined = ap (λ (y : SeatState). y.knows.joined) set_it ∙ goes.joined;
+      }
+
+      pub comes_with_change : ComesFree z old txn key s → ComesFree z old txn key new
+      comes_with_change k = record {
+        free = k.free;
+        number = k.number;
+        noted = noted_new (unchanged name key k.number) k.noted;
+        reached = k.reached;
+        seen = subst (λ (es : List Entry). k.number ≤ length es) (sym new_seen) k.seen;
+        unchanged = λ r pin. subst (λ (es : List Entry). IsUnchanged es key r.number) (sym new_seen) (k.unchanged r pin);
+      }
+
+-- what stages is not full, or has the key
+pub not_full : (txn : OpenState) (key : List ℕ) → (has_key txn.batch txn.locked key ≡ false → length txn.batch + length txn.locked < MOST_KEYS) → IsFull txn key → ⊥
+not_full txn key room full = let less = room full.1 in let most = full.0 in absurd (omega (arith, less, most))
+
+pub staged : {D : Type 0} (z : SharedState D) (old s new : SeatState) (txn left : OpenState) (change : Change) (changes : List Change) → HasOpen old txn → ComesTo z old txn (key_of change) (Ok tt) s → new ≡ seat_of s (with_batch txn.name changes s.knows)
+    → changes ≡ with_change txn.batch change → is_batch txn.batch ≡ true → (has_key txn.batch txn.locked (key_of change) ≡ false → length txn.batch + length txn.locked < MOST_KEYS) → left ≡ with_changed txn change → Changes z old txn change (Ok tt) new left
+staged z old s new txn left change changes h comes set_it changes_are whole room left_is =
+    let key : List ℕ = key_of change in let b : Bool = has_key txn.batch txn.locked key in
+    let ascending = (and_parts (nat_le (length txn.batch) MOST_KEYS) (are_ascending txn.batch) whole).1 in (
+      left_is,
+      subst (HasOpen new) (sym left_is) (open_with_change z old txn h key b refl s comes.0 comes.1 new changes set_it change refl changes_are ascending room),
+      not_full txn key room,
+      subst (λ (batch : List Change). Continues z old new (with_transaction txn.name (record (transaction_in (locking b txn.name key old.knows.participant) txn.name) { batch = batch }) (locking b txn.name key old.knows.participant))) changes_are
+          (goes_with_change z old txn h key b refl s comes.0 comes.1 new changes set_it),
+      λ none. comes_with_change z old txn h key b refl s comes.0 comes.1 new changes set_it (comes.2 none),
+    )
+
+-- ---- where the key did not come to it
+
+-- the transaction is as it was
+pub open_as_before : {D : Type 0} (z : SharedState D) (old new : SeatState) (txn : OpenState) (p : Participant) → p.transactions ≡ old.knows.participant.transactions → p.direct ≡ old.knows.participant.direct → p.registered ≡ old.knows.participant.registered
+    → ((event : Event) → IsIn event old.knows.participant.past → IsIn event p.past) → Continues z old new p → HasOpen old txn → HasOpen new txn
+open_as_before z old new txn p same direct registered past goes h = open_still old new (still z old new p same direct past goes) txn h (pinned_still z old new p txn registered goes h)
+
+pub open_kept : {D : Type 0} (z : SharedState D) (old new : SeatState) (txn : OpenState) → Keeps z old new → HasOpen old txn → HasOpen new txn
+open_kept z old new txn goes h = open_as_before z old new txn old.knows.participant refl refl refl (λ event there. there) goes h
+
+-- ... or it is but for what the seat remembers
+pub open_remembered : {D : Type 0} (z : SharedState D) (old new : SeatState) (txn : OpenState) (events : List Event) → Continues z old new (with_events events old.knows.participant) → HasOpen old txn → HasOpen new txn
+open_remembered z old new txn events goes h = open_as_before z old new txn (with_events events old.knows.participant) refl refl refl (λ event there. in_front event old.knows.participant.past events there) goes h
+
+pub key_refused : {D : Type 0} (z : SharedState D) (old : SeatState) (txn : OpenState) (key : List ℕ) (new : SeatState) (reason : TxnError) → (IsFull txn key → ⊥) → has_key txn.batch txn.locked key ≡ false → HasOpen old txn
+    → TakesKey z old txn key (Err reason) new → RefusesKey z old txn key reason new txn
+key_refused z old txn key new why.Memory room none has c = (refl, open_kept z old new txn c has, c)
+key_refused z old txn key new (why.Busy holder) room none has c = (refl, open_remembered z old new txn _ c.1.goes_on has, room, none, c.0, c.1)
+key_refused z old txn key new (why.Conflict number) room none has c = (refl, open_remembered z old new txn _ c.1.goes_on has, room, c.0, c.1)
+key_refused z old txn key new other room none has c = absurd c

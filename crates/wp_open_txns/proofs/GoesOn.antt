@@ -1,5 +1,5 @@
 -- A seat that took the locks turn, made its steps, and gave the turn goes on.
-use Rattle.std.proofs.Common.{◌≡◌, inl, inr, ℕ, ◌≤◌, Bool, true, true≢false, List, [], ◌∷◌, length, refl, sym, subst, ap, ◌∙◌, append-nil, Option, Some, None, is_some}
+use Rattle.std.proofs.Common.{◌≡◌, inl, inr, arith, ℕ, ◌≤◌, Bool, true, true≢false, List, [], ◌∷◌, length, refl, sym, subst, ap, ◌∙◌, append-nil, Option, Some, None, is_some}
 use Rattle.std.specs.Prelude.{Result, Ok, Err, OnOk, if◌then◌else◌}
 use Rattle.std.specs.FinSet as set
 use Rattle.std.specs.FinMap as finite
@@ -26,15 +26,15 @@ use Rattle.wp_rule.specs.Words.{IsAt}
 use Rattle.wp_shared.specs.Seats.{SharedState, SeatState, IsFree, Stands, place_at}
 use Rattle.wp_shared.specs.Turns.{HoldsTurn, Taken, Given}
 use Rattle.wp_shared.specs.Calls.{IsLoose, ContinuesWith, Continues, with_events}
-use Rattle.wp_shared.specs.Notes.{seat_of}
+use Rattle.wp_shared.specs.Notes.{noting, seat_of}
 use Rattle.wp_shared.proofs.Goes.{none_under_locks}
 use Rattle.wp_shared.proofs.Onward.{holds_alone}
 use Rattle.wp_open_txns.specs.declared.error.TxnError.{TxnError}
 use Rattle.wp_open_txns.specs.declared.error.TxnError.TheVariants as why
 use Rattle.wp_open_txns.specs.Actors.{no_changes, with_claimed, with_found, with_told, with_heard, giving_up}
-use Rattle.wp_open_txns.specs.Calls.{with_transaction, Keeps, StoodWithLocks, LocksWere, IsFreeName, Finds, GivesUp, Begins, WasHistory, Tells, Hears, Frees}
+use Rattle.wp_open_txns.specs.Calls.{with_transaction, without_transaction, Keeps, StoodWithLocks, FoundLocks, LocksWere, LocksAre, IsFreeName, Finds, GivesUp, Begins, WasHistory, Tells, Hears, Frees}
 use Rattle.wp_open_txns.specs.Turns.{IsApartFrom, IsWithout}
-use Rattle.wp_open_txns.specs.Txn.{HasOpen}
+use Rattle.wp_open_txns.specs.Txn.{PreparedState, HasOpen, HasPrepared}
 use Rattle.wp_open_txns.specs.Under.{Claims, TellsUnder, HearsUnder}
 use Rattle.wp_open_txns.proofs.Made.{locks_are, not_had}
 
@@ -85,11 +85,15 @@ module _ {D : Type 0} (z : SharedState D) (old s : SeatState) (t : LockState) (k
     joined = ap (λ (x : SeatState). x.knows.joined) k.seat;
   }
 
+  pub found_taken : FoundLocks z old k.stands.0
+  unfolding stood_taken
+  found_taken = record { stood = stood_taken; notes = λ fact there. k.goes.noted fact refl there }
+
 pub locks_found : {D : Type 0} (z : SharedState D) (old s : SeatState) (t : LockState) (So : LockState → Type 0) → Taken z old s (locks t) → So t → LocksWere z old So
-locks_found z old s t So k so = record { world = k.stands.0; stood = stood_taken z old s t k; so_is = subst So (sym (taken_are z old s t k)) so }
+locks_found z old s t So k so = record { world = k.stands.0; stood = found_taken z old s t k; so_is = subst So (sym (taken_are z old s t k)) so }
 
 -- the seat held them so as it gave the turn
-pub locks_left : {D : Type 0} (z : SharedState D) (r new : SeatState) (m : LockState) (So : LockState → Type 0) → (w : World) × Stands z r w → IsIn (locks m) r.knows.held → Given z locks_turn r new [] [] → So m → LocksWere z new So
+pub locks_left : {D : Type 0} (z : SharedState D) (r new : SeatState) (m : LockState) (So : LockState → Type 0) → (w : World) × Stands z r w → IsIn (locks m) r.knows.held → Given z locks_turn r new [] [] → So m → LocksAre z new So
 locks_left z r new m So stands held gave so = let are = locks_are (place_at z r.by) r.knows stands.0 m stands.1 held in record {
   world = stands.0;
   stood = record {
@@ -110,6 +114,31 @@ not_live z old s t name k none = not_had (place_at z old.by) old.knows k.world t
 -- a live name that is left
 pub name_left : (t m : LockState) (name : List ℕ) → is_some (finite.get t.names name) ≡ true → m ≡ record t { names = names_left t.names name } → m ≡ with_name t name None
 name_left t m name live is = is ∙ ap (λ (b : Bool). record t { names = if b then finite.insert t.names name None else t.names }) live
+
+-- ---- a seat that noted a fact before
+
+module _ {D : Type 0} (z : SharedState D) (old s : SeatState) (fact : Fact) (is : s ≡ noting fact old) where
+  pub free_noting : IsFree z.table old → IsFree z.table s
+  free_noting free = record {
+    same_table = ap (λ (x : SeatState). x.table) is ∙ free.same_table;
+    live = ap (λ (x : SeatState). x.knows.live) is ∙ free.live;
+    turns = ap (λ (x : SeatState). x.turns) is ∙ free.turns;
+    held = ap (λ (x : SeatState). x.knows.held) is ∙ free.held;
+  }
+
+  pub prepared_noting : (x : PreparedState) → HasPrepared old x → HasPrepared s x
+  prepared_noting x h = subst (λ (y : SeatState). HasPrepared y x) (sym is) (record { transaction = h.transaction; has = h.has; batch_is = h.batch_is; keys = h.keys; noted = inr h.noted; seen = h.seen; stands = h.stands })
+
+  pub gives_up_noting : (new : SeatState) (name : List ℕ) → GivesUp z s new name → GivesUp z old new name
+  gives_up_noting new name goes = record {
+    free = goes.free;
+    same_by = goes.same_by ∙ ap (λ (x : SeatState). x.by) is;
+    seen = subst (λ (x : SeatState). StartsWith new.knows.participant.seen x.knows.participant.seen) is goes.seen;
+    participant = goes.participant ∙ ap (λ (x : SeatState). record (without_transaction name x.knows.participant) { seen = new.knows.participant.seen }) is;
+    notes = λ other apart there. goes.notes other apart (subst (λ (x : SeatState). IsIn other x.knows.notes) (sym is) (inr there));
+    made = goes.made ∙ ap (λ (x : SeatState). x.knows.made) is;
+    joined = goes.joined ∙ ap (λ (x : SeatState). x.knows.joined) is;
+  }
 
 -- ---- under the turn
 
@@ -165,7 +194,7 @@ module _ {D : Type 0} (z : SharedState D) (old : SeatState) (t : LockState) (s :
       → Finds z old new key holder
   finds key holder r new published is low e gave = record {
     world = k.stands.0;
-    stood = stood_taken z old s t k;
+    stood = found_taken z old s t k;
     holds = subst (λ (l : LockState). IsHolderIn l key holder) (sym (taken_are z old s t k)) is;
     published = published;
     reached = subst (λ (x : SeatState). length x.knows.participant.seen ≤ published) took low;
@@ -176,7 +205,7 @@ module _ {D : Type 0} (z : SharedState D) (old : SeatState) (t : LockState) (s :
   -- ---- a name
 
   pub begun : (name : List ℕ) (r new : SeatState) → r ≡ seat_of s (with_claimed t name s.knows) → Given z locks_turn r new [] []
-      → HasOpen new (record { name = name; batch = [] }) × Continues z old new (with_events (claimed name ∷ []) (with_transaction name no_changes old.knows.participant))
+      → HasOpen new (record { name = name; batch = []; locked = []; pin = None }) × Continues z old new (with_events (claimed name ∷ []) (with_transaction name no_changes old.knows.participant))
   begun name r new e gave =
       let b = with_claimed t name (with_locks t old).knows in let is = under (with_claimed t name) r e in
       let goes = back_at_once b r new is gave refl refl refl (λ fact there. inr there) in (
@@ -186,6 +215,10 @@ module _ {D : Type 0} (z : SharedState D) (old : SeatState) (t : LockState) (s :
           batch_is = refl;
           keys = λ key. set.contains-empty key_cmp key;
           noted = noted_back b r new (unprepared name) is gave (inl refl);
+          few = record { once = tt; apart = λ key there. absurd cc; few = omega arith };
+          came = λ key has. absurd cc;
+          since = λ key has. absurd cc;
+          pinned = λ pin is_pinned. absurd cc;
         },
         goes,
       )

@@ -1,6 +1,9 @@
+pub mod Keys
 pub mod Made
 pub mod Still
 pub mod GoesOn
 pub mod Adding
+mod KeyTaken
+mod Pinned
 mod Freed
 mod Taking

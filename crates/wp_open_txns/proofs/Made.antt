@@ -1,12 +1,13 @@
 -- The actor that steps beside a load leave.
-use Rattle.std.proofs.Common.{◌≡◌, ℕ, ◌≤◌, Bool, ◌||◌, true, false, true≢false, List, [], ◌∷◌, length, refl, sym, subst, ap, ◌∙◌, Option, Some, None, is_some}
+use Rattle.std.proofs.Common.{◌≡◌, ℕ, ◌≤◌, Bool, ◌||◌, true, false, true≢false, List, [], ◌∷◌, length, refl, sym, subst, ap, ◌∙◌, Option, Some, None, is_some, arith}
 use Rattle.std.specs.Prelude.{unwrap_or}
 use Rattle.std.specs.FinSet as set
 use Rattle.std.specs.FinMap as finite
 use Rattle.std.specs.Option.{option_map_or}
 use Rattle.std.specs.Cmp.{both_ways}
+use Rattle.std.proofs.lemmas.Cmp.{nat_list_cmp_total}
 use Rattle.std.proofs.lemmas.Slice.Eq.{bytes_eq-Decides}
-use Rattle.wp_model.specs.LockState.{LockState}
+use Rattle.wp_model.specs.LockState.{LockState, is_among_keys}
 use Rattle.wp_model.specs.Batch.{is_batch}
 use Rattle.wp_model.specs.History.{prepared_batch, named, batch_at, is_changed}
 use Rattle.wp_model.specs.declared.change.Change.{Change}
@@ -17,19 +18,22 @@ use Rattle.wp_locks.specs.Locks.{is_free_for}
 use Rattle.wp_model.specs.Holder.{is_same, is_same_txn}
 use Rattle.wp_core.specs.Lists.{IsIn}
 use Rattle.wp_core.specs.States.{locks}
+use Rattle.wp_core.specs.Turns.{locks_turn}
 use Rattle.wp_core.specs.Views.{Account, Fact, has_left, undecided_at, prior_values, unprepared, direct_free, unchanged, locks_stay, live_listed}
 use Rattle.wp_core.specs.World.{Transaction, Actor, World}
-use Rattle.wp_core.specs.Steps.{Step, load_published, claim_name, find_holder, lock_key, set_batch, free_transaction, leave_name, take_name, tell, hear, note}
-use Rattle.wp_core.specs.Changes.{sees, is_held_by, keys_of_holder, with_name, without_transaction}
+use Rattle.wp_core.specs.Steps.{Step, load_published, claim_name, find_holder, lock_key, free_key, set_batch, free_transaction, leave_name, take_name, tell, hear, note}
+use Rattle.wp_core.specs.Changes.{sees, has_transaction, is_held_by, keys_of_holder, with_name, without_key, without_transaction}
 use Rattle.wp_core.specs.Conditions.{HasTransaction}
 use Rattle.wp_core.specs.Effects.{done}
-use Rattle.wp_core.specs.Entries.{batch_of_name}
 use Rattle.wp_core.specs.Notes.{ends}
 use Rattle.wp_core.specs.Sound.Actors.{StartsWith}
 use Rattle.wp_core.specs.Sound.Locks.{owner_of}
+use Rattle.wp_core.specs.Sound.Views.{OwnsKey}
+use Rattle.wp_history_laws.proofs.Unchanged.{unchanged_at_end}
 use Rattle.wp_core.proofs.AllParticipants.{mine}
 use Rattle.wp_core.proofs.HistoryGrows.{none_is}
-use Rattle.wp_model.proofs.Keyed.{at_inserted}
+use Rattle.wp_model.proofs.Keyed.{at_inserted, same_test}
+use Rattle.wp_model.proofs.Tests.{some_none}
 use Rattle.wp_core.proofs.KeepsSeen.{shorter}
 use Rattle.wp_rule.specs.Words.{Place, IsAt, SawAll}
 use Rattle.wp_rule.specs.Moves.{MayMake, Moved, first_of, actor_after, world_after, taking_name}
@@ -38,15 +42,17 @@ use Rattle.wp_rule.specs.Knows.{Noted}
 use Rattle.wp_rule.proofs.Forgets.{EndsNothing, forgets_nothing, load_ends, note_ends}
 use Rattle.wp_rule.proofs.Knows.{at_sound, seen_is, noted_is}
 use Rattle.wp_rule.proofs.MayBeMade.{known_made, finds_holder}
-use Rattle.wp_rule.proofs.Needed.{has_locks, has_writes, undecided_of}
+use Rattle.wp_rule.proofs.Needed.{has_locks, has_writes, undecided_of, alone}
 use Rattle.wp_rule.proofs.Outlasting.{outlasts}
+use Rattle.wp_rule.proofs.Stores.{holder_is_live}
 use Rattle.wp_shared.specs.Seats.{SharedState, SeatState, Stands, place_at}
 use Rattle.wp_shared.proofs.OneStep.{stepped, becomes}
-use Rattle.wp_open_txns.specs.Actors.{no_changes, transaction_in, with_claimed, with_found, with_locked, with_batch, giving_up, with_taken, with_told, with_heard}
+use Rattle.wp_open_txns.specs.Actors.{no_changes, transaction_in, with_key_locked, with_claimed, with_found, with_locked, freeing_key, with_batch, giving_up, with_taken, with_told, with_heard}
 use Rattle.wp_open_txns.specs.Calls.{WasHistory}
-use Rattle.wp_open_txns.specs.Turns.{IsApartFrom, IsWithout, TakesPrepare}
+use Rattle.wp_open_txns.specs.Turns.{IsApartFrom, is_of_key, IsOfOtherKey, IsWithout, IsWithoutKey, LocksUnchanged, TakesPrepare}
 use Rattle.wp_shared.specs.Notes.{seat_of}
-use Rattle.wp_open_txns.specs.Txn.{PreparedState, HasPrepared}
+use Rattle.wp_open_txns.specs.Txn.{PreparedState, keys_in, HasPrepared}
+use Rattle.wp_open_txns.proofs.Keys.{among_keys_in}
 
 -- ---- steps that end no note
 
@@ -110,7 +116,7 @@ module _ (p : Place) (a : Actor) (w : World) (k : IsAt p a w) (name : List ℕ) 
   name_there : finite.get w.locks.names name ≡ Some (Some a.participant.client)
   name_there = ((at_sound p a w k).locks.had p.by 0 (owner_of a.participant) (mine owner_of w.actors p.by a a k.there refl)).names name x has
 
-  key_there : (key : List ℕ) → set.contains x.locked key ≡ true → finite.get w.locks.keys key ≡ Some (Txn name)
+  pub key_there : (key : List ℕ) → set.contains x.locked key ≡ true → finite.get w.locks.keys key ≡ Some (Txn name)
   key_there key locked = ((at_sound p a w k).locks.had p.by 0 (owner_of a.participant) (mine owner_of w.actors p.by a a k.there refl)).keys name x key has locked
 
 -- it has no transaction whose name is no client's
@@ -146,34 +152,86 @@ not_free : (o : Option Holder) (name : List ℕ) → is_free_for o (Txn name) �
 not_free None name free other = refl
 not_free (Some holder) name free other = absurd (other (ap (λ (h : Holder). Some h) (same_txn holder name free)))
 
+-- the steps by which it locks a key for its transaction: it sees the history too, and notes that the key is unchanged since
+abbrev pub locking_steps : Actor → List ℕ → List ℕ → World → List Step
+locking_steps a name key w = lock_key name (transaction_in a.participant name) key ∷ load_published ∷ note (unchanged name key (length w.writes.history)) ∷ []
+
+has_key_more : (x : Transaction) (key : List ℕ) → set.contains (with_key_locked key x).locked key ≡ true
+has_key_more x key = set.contains-insert nat_list_cmp_total x.locked key key ∙ ap (λ (b : Bool). b || set.contains x.locked key) (same_test key key refl)
+
 pub may_lock : (p : Place) (a : Actor) (t : LockState) (name key : List ℕ) → is_some (finite.get a.participant.transactions name) ≡ true → set.contains (transaction_in a.participant name).locked key ≡ false
-    → IsIn (unprepared name) a.notes → IsIn (locks t) a.held → is_free_for (finite.get t.keys key) (Txn name) ≡ true → MayMake p a (λ w. lock_key name (transaction_in a.participant name) key ∷ [])
+    → IsIn (unprepared name) a.notes → IsIn (locks t) a.held → is_free_for (finite.get t.keys key) (Txn name) ≡ true → MayMake p a (locking_steps a name key)
 may_lock p a t name key there unlocked noted held free w k =
     let h = has_locks p a w k (λ l. is_free_for (finite.get l.keys key) (Txn name) ≡ true) (record { state = t; held = held; so_is = free }) in
-    let has = has_its a name there in (
-      (tt, tt),
+    let x = transaction_in a.participant name in let has = has_its a name there in
+    let live : a.live ≡ true = holder_is_live p a w locks_turn k h.0 in
+    let none = not_free (finite.get w.locks.keys key) name h.1 (λ own.
+    true≢false (sym ((at_sound p a w k).locks.keys_known key name own p.by 0 (owner_of a.participant) (mine owner_of w.actors p.by a a k.there refl) x has) ∙ unlocked)) in
+    let has_now : OwnsKey (has_transaction a name (with_key_locked key x)).participant name key = (with_key_locked key x, at_inserted a.participant.transactions name (with_key_locked key x) name refl, has_key_more x key) in (
+      (tt, (tt, (tt, tt))),
       (
-        (
-          h.0,
-          has,
-          not_free (finite.get w.locks.keys key) name h.1 (λ own.
-              true≢false (sym ((at_sound p a w k).locks.keys_known key name own p.by 0 (owner_of a.participant) (mine owner_of w.actors p.by a a k.there refl) (transaction_in a.participant name) has) ∙ unlocked)),
-          (noted_is p a w (unprepared name) k noted).is_so.1,
-        ),
-        tt,
+        (h.0, has, none, (noted_is p a w (unprepared name) k noted).is_so.1),
+        (tt, ((live, alone p a w k, (has_now, omega arith, unchanged_at_end w.writes.history key (length w.writes.history) (omega arith))), tt)),
       ),
     )
 
-pub key_locked : (p : Place) (so : World → Type 0) (a b : Actor) (t : LockState) (name key : List ℕ) → Moved p (λ w. lock_key name (transaction_in a.participant name) key ∷ []) so a b → IsIn (locks t) a.held
-    → b ≡ with_locked t name key a
-key_locked p so a b t name key m held =
-    all_made p (λ w. lock_key name (transaction_in a.participant name) key ∷ []) so a b m (lock_ends name (transaction_in a.participant name) key, tt)
-    ∙ ap (λ (l : LockState). with_locked l name key a) (locks_are p a m.world t m.before held)
+-- no note of a key says anything that nobody holds
+none_noted : (p : Place) (a : Actor) (w : World) (key : List ℕ) → IsAt p a w → finite.get w.locks.keys key ≡ None → (fact : Fact) → is_of_key key fact ≡ true → IsIn fact a.notes → ⊥
+none_noted p a w key k none (unchanged name other n) is there =
+    let owns = (noted_is p a w (unchanged name other n) k there).is_so.0 in
+    some_none (Txn name) (sym (key_there p a w k name owns.0 owns.1 other owns.2) ∙ ap (finite.get w.locks.keys) (sym ((bytes_eq-Decides key other).0 is)) ∙ none)
+none_noted p a w key k none other is there = absurd cc
 
--- nobody held it
-pub key_was_free : (p : Place) (so : World → Type 0) (a b : Actor) (t : LockState) (name key : List ℕ) → Moved p (λ w. lock_key name (transaction_in a.participant name) key ∷ []) so a b → IsIn (locks t) a.held
-    → finite.get t.keys key ≡ None
-key_was_free p so a b t name key m held = ap (λ (l : LockState). finite.get l.keys key) (sym (locks_are p a m.world t m.before held)) ∙ m.met.0.2
+pub key_locked : (p : Place) (so : World → Type 0) (s new : SeatState) (same : (new.table ≡ s.table) × (new.by ≡ s.by) × (new.turns ≡ s.turns)) (t : LockState) (name key : List ℕ) → IsIn (locks t) s.knows.held
+    → Moved p (locking_steps s.knows name key) so s.knows new.knows → LocksUnchanged s t name key new
+key_locked p so s new same t name key held m =
+    let a = s.knows in let w = m.world in let h : List Entry = w.writes.history in
+    let are = locks_are p a w t m.before held in
+    let made = all_made p (locking_steps a name key) so a new.knows m (lock_ends name (transaction_in a.participant name) key, (load_ends, (note_ends (unchanged name key (length h)), tt))) in
+    record {
+      history = h;
+      seat = becomes s new (with_locked t h name key a) same (made ∙ ap (λ (l : LockState). with_locked l h name key a) are);
+      grown = seen_is p a w m.before;
+      free = ap (λ (l : LockState). finite.get l.keys key) (sym are) ∙ m.met.0.2;
+      first = none_noted p a w key m.before m.met.0.2;
+    }
+
+-- ---- a key that is freed again
+
+owned_locked : (a : Actor) (name key : List ℕ) → OwnsKey a.participant name key → set.contains (transaction_in a.participant name).locked key ≡ true
+owned_locked a name key owns = ap (λ (o : Option Transaction). set.contains (unwrap_or o no_changes).locked key) owns.1 ∙ owns.2
+
+pub may_free_key : (p : Place) (a : Actor) (t : LockState) (name key : List ℕ) → OwnsKey a.participant name key → IsIn (unprepared name) a.notes → IsIn (locks t) a.held → MayMake p a (λ w. free_key name (transaction_in a.participant name) key ∷ [])
+may_free_key p a t name key owns noted held =
+    known_made p a (free_key name (transaction_in a.participant name) key) tt (record { state = t; held = held; so_is = (has_its a name (ap is_some owns.1), owned_locked a name key owns, noted) })
+
+free_key_ends : (history : List Entry) (words : ℕ) (name : List ℕ) (x : Transaction) (key : List ℕ) (fact : Fact) → IsOfOtherKey key fact → ends history words (free_key name x key) fact ≡ false
+free_key_ends history words name x key (undecided_at other p) e = refl
+free_key_ends history words name x key (prior_values other p batch) e = refl
+free_key_ends history words name x key (unprepared other) e = refl
+free_key_ends history words name x key (direct_free k) e = refl
+free_key_ends history words name x key (unchanged other k n) e = e.1
+free_key_ends history words name x key (locks_stay other p keys) e = refl
+free_key_ends history words name x key (live_listed floor listed) e = refl
+free_key_ends history words name x key (has_left p) e = refl
+free_key_ends history words name x key other e = let n = e.0 in absurd cc
+
+-- the actor but for its notes
+pub but_notes : (a b c : Actor) → b ≡ record a { notes = c.notes } → b ≡ record a { notes = b.notes }
+but_notes a b c e = e ∙ ap (λ (notes : List Fact). record a { notes = notes }) (sym (ap (λ (x : Actor). x.notes) e))
+
+pub key_freed : (p : Place) (so : World → Type 0) (s new : SeatState) (same : (new.table ≡ s.table) × (new.by ≡ s.by) × (new.turns ≡ s.turns)) (t : LockState) (name key : List ℕ) → IsIn (locks t) s.knows.held
+    → Moved p (λ w. free_key name (transaction_in s.knows.participant name) key ∷ []) so s.knows new.knows → IsWithoutKey s new (without_key t key) name key
+key_freed p so s new same t name key held m =
+    let a = s.knows in let step = free_key name (transaction_in a.participant name) key in
+    let after = actor_after (step ∷ []) m.world p.by a in
+    let e : new.knows ≡ record (freeing_key (without_key t key) name key a) { notes = after.notes } =
+    m.actor ∙ ap (λ (l : LockState). record (freeing_key (without_key l key) name key a) { notes = after.notes }) (locks_are p a m.world t m.before held) in
+    record {
+      seat = becomes s new (record (freeing_key (without_key t key) name key a) { notes = new.knows.notes }) same (but_notes (freeing_key (without_key t key) name key a) new.knows after e);
+      notes = λ fact stays there.
+          subst (λ (x : Actor). Noted x fact) (sym m.actor) (outlasts fact (step ∷ []) m.world p.by a there ((λ x. x), free_key_ends m.world.writes.history (length m.world.cache) name (transaction_in a.participant name) key fact stays, tt));
+    }
 
 pub may_set : (p : Place) (a : Actor) (name : List ℕ) (batch : List Change) → is_some (finite.get a.participant.transactions name) ≡ true → is_batch batch ≡ true → MayMake p a (λ w. set_batch name (transaction_in a.participant name) batch ∷ [])
 may_set p a name batch there ok = known_made p a (set_batch name (transaction_in a.participant name) batch) tt (has_its a name there, ok)
@@ -188,12 +246,29 @@ pub may_free : (p : Place) (a : Actor) (t : LockState) (name : List ℕ) → is_
 may_free p a t name there held noted = known_made p a (free_transaction name) tt (record { state = t; held = held; so_is = ((transaction_in a.participant name, has_its a name there), noted) })
 
 pub may_leave : (p : Place) (s : SeatState) (t : LockState) (x : PreparedState) → HasPrepared s x → IsIn (locks t) s.knows.held → MayMake p s.knows (λ w. leave_name x.name ∷ [])
-may_leave p s t x h held =
-    known_made p s.knows (leave_name x.name) tt (record {
-      state = t;
-      held = held;
-      so_is = (h.transaction, h.has, (x.number, h.noted, h.seen, λ key locked. ap (λ (o : Option Entry). is_changed (prepared_batch o) key) h.stands ∙ sym (h.keys key) ∙ locked));
-    })
+may_leave p s t x h held = known_made p s.knows (leave_name x.name) tt (record { state = t; held = held; so_is = ((h.transaction, h.has), (x.number, h.noted)) })
+
+-- just its keys are held for a transaction that the seat has, and so they stay once it is left
+pub may_note_locks : (p : Place) (s : SeatState) (x : PreparedState) → s.knows.live ≡ true → HasPrepared s x → MayMake p s.knows (λ w. note (locks_stay x.name x.number (keys_in x.batch x.locked)) ∷ [])
+may_note_locks p s x live h w k =
+    let few = shorter w.writes.history s.knows.participant.seen (seen_is p s.knows w k) in let low = h.seen in
+    let locked_are : (key : List ℕ) → set.contains h.transaction.locked key ≡ is_among_keys (keys_in x.batch x.locked) key = λ key. h.keys key ∙ sym (among_keys_in x.batch x.locked key) in (
+      (tt, tt),
+      (
+        (
+          live,
+          alone p s.knows w k,
+          (
+            omega (arith, few, low),
+            λ is. record {
+              among = λ key holds. sym (locked_are key) ∙ (at_sound p s.knows w k).locks.keys_known key x.name holds p.by 0 (owner_of s.knows.participant) (mine owner_of w.actors p.by s.knows s.knows k.there refl) h.transaction h.has;
+              are_held = λ key has. key_there p s.knows w k x.name h.transaction h.has key (locked_are key ∙ has);
+            },
+          ),
+        ),
+        tt,
+      ),
+    )
 
 pub is_live : (p : Place) (a : Actor) (w : World) (t : LockState) (name : List ℕ) → IsAt p a w → is_some (finite.get a.participant.transactions name) ≡ true → IsIn (locks t) a.held → is_some (finite.get t.names name) ≡ true
 is_live p a w t name k there held =
@@ -204,7 +279,7 @@ free_ends history words name (undecided_at other p) e = e.1
 free_ends history words name (prior_values other p batch) e = e.1
 free_ends history words name (unprepared other) e = e.1
 free_ends history words name (direct_free key) e = refl
-free_ends history words name (unchanged other key n) e = ap (λ (t : Bool). t || false) e.1
+free_ends history words name (unchanged other key n) e = ap (λ (b : Bool). b || false) e.1
 free_ends history words name (locks_stay other p keys) e = refl
 free_ends history words name (live_listed floor listed) e = refl
 free_ends history words name (has_left p) e = refl
@@ -213,6 +288,7 @@ free_ends history words name other e = let n = e.0 in absurd cc
 -- leaving a name ends what freeing it does
 leave_ends : (history : List Entry) (words : ℕ) (name : List ℕ) (fact : Fact) → ends history words (leave_name name) fact ≡ ends history words (free_transaction name) fact
 leave_ends history words name (undecided_at other p) = refl
+leave_ends history words name (unchanged other key n) = refl
 leave_ends history words name other = refl
 
 -- who holds a key, as the locks have it, and as the test says
@@ -223,10 +299,6 @@ held_so name (Some (Txn other)) h = ap (λ (n : List ℕ). Some (Txn n)) (sym ((
 
 held_for : (name : List ℕ) (o : Option Holder) → o ≡ Some (Txn name) → option_map_or (is_same (Txn name)) o false ≡ true
 held_for name o e = ap (λ (x : Option Holder). option_map_or (is_same (Txn name)) x false) e ∙ (bytes_eq-Decides name name).1 refl
-
--- the actor but for its notes
-pub but_notes : (a b c : Actor) → b ≡ record a { notes = c.notes } → b ≡ record a { notes = b.notes }
-but_notes a b c e = e ∙ ap (λ (notes : List Fact). record a { notes = notes }) (sym (ap (λ (x : Actor). x.notes) e))
 
 module _ (p : Place) (so : World → Type 0) (s new : SeatState) (same : (new.table ≡ s.table) × (new.by ≡ s.by) × (new.turns ≡ s.turns)) (t : LockState) (name : List ℕ) (held : IsIn (locks t) s.knows.held) where
   pub freed_it : Moved p (λ w. free_transaction name ∷ []) so s.knows new.knows → IsWithout s new (without_transaction t name) name
@@ -283,10 +355,7 @@ module _ (p : Place) (so : World → Type 0) (s new : SeatState) (same : (new.ta
         seat = becomes s new (with_taken t h name s.knows) same (is ∙ ap (λ (l : LockState). with_taken l h name s.knows) are);
         seen = seen_is p s.knows w k;
         named_there = there;
-        keys = λ key.
-            ap (λ (l : LockState). set.contains (keys_of_holder l (Txn name)) key) (sym are)
-            ∙ both_ways (set.contains (keys_of_holder w.locks (Txn name)) key) (is_changed (batch_of_name h name) key) (λ locked. sound.keys_left key name left ((sound_later.had p.by 0 (owner_of new.knows.participant) own).keys name x key has locked))
-            (λ changed. sound_later.keys_known key name (undecided_of p s.knows w k name q key (there_is (named h name) 0 there) changed) p.by 0 (owner_of new.knows.participant) own x has);
+        keys = λ key changed. ap (λ (l : LockState). finite.get l.keys key) (sym are) ∙ undecided_of p s.knows w k name q key (there_is (named h name) 0 there) changed;
         same = λ d holds. (has_writes p s.knows w k (λ e. e.history ≡ d.history) (record { state = d; held = holds; so_is = refl })).1;
       }
 

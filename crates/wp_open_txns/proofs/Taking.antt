@@ -1,17 +1,20 @@
 -- A seat that took the write turn and then the locks turn, took a prepare or found that it may not, and gave both turns.
-use Rattle.std.proofs.Common.{◌≡◌, inl, inr, ℕ, ◌≤◌, true, true≢false, List, [], ◌∷◌, length, refl, sym, subst, ap, ◌∙◌, append-nil, Option, Some, None, is_some}
-use Rattle.std.specs.Prelude.{unwrap_or, Err}
+use Rattle.std.proofs.Common.{◌≡◌, inl, inr, ℕ, ◌≤◌, Bool, true, false, true≢false, ◌||◌, List, [], ◌∷◌, length, refl, sym, subst, ap, ◌∙◌, append-nil, Option, Some, None, is_some, Bor}
+use Rattle.std.specs.Prelude.{unwrap_or, IfSome, Err}
+use Rattle.std.specs.Option.{option_copied}
+use Rattle.std.specs.Cmp.{both_ways}
 use Rattle.std.specs.FinMap as finite
+use Rattle.std.specs.FinSet as set
 use Rattle.std.proofs.lemmas.Slice.Eq.{bytes_eq-Decides}
 use Rattle.wp_model.specs.History.{entry_at, is_prepare, prepared_name, prepared_batch, is_undecided, named, name_at, batch_at, is_changed}
-use Rattle.wp_model.specs.LockState.{LockState}
+use Rattle.wp_model.specs.LockState.{LockState, is_among_keys}
 use Rattle.wp_model.specs.declared.change.Change.{Change}
 use Rattle.wp_model.specs.declared.entry.Entry.{Entry}
 use Rattle.wp_model.specs.declared.entry.Entry.TheVariants.{Prepare}
 use Rattle.wp_model.specs.declared.holder.Holder.TheVariants.{Txn}
 use Rattle.wp_model.proofs.Entries.{undecided_prepared, undecided_within}
 use Rattle.wp_model.proofs.Found.{found_named}
-use Rattle.wp_locks.specs.Locks.{RefusesTake}
+use Rattle.wp_locks.specs.Locks.{AreBeyond, RefusesTake}
 use Rattle.wp_locks.specs.declared.error.LockError.TheVariants as lock_error
 use Rattle.wp_core.specs.Lists.{IsIn}
 use Rattle.wp_core.specs.States.{WriteState, writes, locks}
@@ -21,7 +24,9 @@ use Rattle.wp_core.specs.World.{Transaction, Participant, Actor, World}
 use Rattle.wp_core.specs.Changes.{sees, keys_of_holder}
 use Rattle.wp_core.specs.Sound.Actors.{StartsWith}
 use Rattle.wp_core.proofs.HistoryGrows.{none_is}
+use Rattle.wp_core.proofs.KeepsNameTaken.{held_in_set, in_set_if_held}
 use Rattle.wp_model.proofs.Keyed.{at_inserted}
+use Rattle.wp_model.proofs.Tests.{same_some, some_none}
 use Rattle.wp_rule.specs.Accounts.{account_of}
 use Rattle.wp_rule.specs.Words.{Place, IsAt}
 use Rattle.wp_rule.proofs.Knows.{at_sound}
@@ -37,8 +42,9 @@ use Rattle.wp_open_txns.specs.declared.error.TxnError.TheVariants as why
 use Rattle.wp_open_txns.specs.Actors.{with_found, with_taken}
 use Rattle.wp_open_txns.specs.Calls.{Keeps, StoodWithBoth, Takes, TakesPrepared}
 use Rattle.wp_open_txns.specs.Turns.{TakesPrepare}
+use Rattle.wp_open_txns.specs.Txn.{has_key}
 use Rattle.wp_open_txns.specs.Under.{IsPrepareOf, TakesUnder}
-use Rattle.wp_open_txns.proofs.GoesOn.{taken_are, stood_taken, with_locks}
+use Rattle.wp_open_txns.proofs.GoesOn.{taken_are, found_taken, with_locks}
 use Rattle.wp_open_txns.proofs.Made.{locks_are, not_had}
 
 -- ---- names
@@ -50,6 +56,25 @@ prepare_of other is = absurd (true≢false (sym is))
 
 prepare_at : (history : List Entry) (p : ℕ) (name : List ℕ) (batch : List Change) → is_undecided history p ≡ true → name_at history p ≡ name → batch_at history p ≡ batch → entry_at history p ≡ Some (Prepare name batch)
 prepare_at history p name batch u named_so changes = prepare_of (entry_at history p) (undecided_prepared history p u) ∙ (λ i. Some (Prepare (named_so i) (changes i)))
+
+-- the keys beyond the prepare that was looked at
+pub beyond_of : (t : LockState) (name : List ℕ) (keys : List (List ℕ)) (o : Option (Bor (ℕ × List Change))) (number : ℕ) (batch : List Change) → option_copied o ≡ Some (number, batch) → IfSome o (λ p. AreBeyond t name p.now.1 keys) → AreBeyond t name batch keys
+beyond_of t name keys None number batch is beyond = absurd (some_none (number, batch) (sym is))
+beyond_of t name keys (Some p) number batch is beyond = subst (λ (x : ℕ × List Change). AreBeyond t name x.1 keys) (same_some p.now (number, batch) is) beyond
+
+-- just the keys of the batch are held for the transaction, and those beyond it
+taken_keys : (t : LockState) (name : List ℕ) (batch : List Change) (locked : List (List ℕ)) → ((key : List ℕ) → is_changed batch key ≡ true → finite.get t.keys key ≡ Some (Txn name)) → AreBeyond t name batch locked
+    → (key : List ℕ) → set.contains (keys_of_holder t (Txn name)) key ≡ has_key batch locked key
+taken_keys t name batch locked held beyond key =
+    both_ways (set.contains (keys_of_holder t (Txn name)) key) (has_key batch locked key) (λ has. from (is_changed batch key) refl (held_in_set t name key has)) (λ has. in_set_if_held t name key (to (is_changed batch key) refl has))
+  where
+    from : (b : Bool) → is_changed batch key ≡ b → finite.get t.keys key ≡ Some (Txn name) → (b || is_among_keys locked key) ≡ true
+    from true changed has = refl
+    from false other has = beyond.all key has other
+
+    to : (b : Bool) → is_changed batch key ≡ b → (b || is_among_keys locked key) ≡ true → finite.get t.keys key ≡ Some (Txn name)
+    to true changed is = held key changed
+    to false other is = (beyond.held key is).0
 
 -- a name that is not live names no undecided prepare
 pub not_named : (p : Place) (a : Actor) (w : World) (t : LockState) (name : List ℕ) → IsAt p a w → IsIn (locks t) a.held → finite.get t.names name ≡ None → named w.writes.history name ≡ None
@@ -118,6 +143,10 @@ module _ {D : Type 0} (z : SharedState D) (old : SeatState) (d : WriteState) (s 
 
       both_at_once : (b : Actor) → r ≡ seat_of (with_locks t s) b → b.made ≡ old.knows.made → b.joined ≡ old.knows.joined → b.participant.seen ≡ old.knows.participant.seen → ((fact : Fact) → IsIn fact s.knows.notes → IsIn fact b.notes) → Continues z old new b.participant
       both_at_once b is made joined same notes = both_back b is made joined ([], same ∙ sym (append-nil old.knows.participant.seen)) notes
+
+      -- nothing was done with them
+      pub gave_both : r ≡ s2 → Keeps z old new
+      gave_both same = both_at_once both (under_both (λ a. a) r same) refl refl refl (λ fact there. there)
 
       was_seen : s2.knows.participant.seen ≡ old.knows.participant.seen
       was_seen = ap (λ (x : SeatState). x.knows.participant.seen) k2.seat ∙ ap (λ (x : SeatState). x.knows.participant.seen) seat_then
@@ -191,8 +220,9 @@ module _ {D : Type 0} (z : SharedState D) (old : SeatState) (d : WriteState) (s 
         pub not_none : IsPrepareOf d.history name None → ⊥
         not_none none = true≢false (sym c.named_there ∙ ap (λ (h : List Entry). is_some (named h name)) of_log ∙ ap is_some none)
 
-        pub takes : (number : ℕ) (batch : List Change) → finite.get t.names name ≡ Some None → IsPrepareOf d.history name (Some (number, batch)) → Takes z old name (record { name = name; number = number; batch = batch }) new
-        takes number batch left p =
+        pub takes : (number : ℕ) (batch : List Change) (locked : List (List ℕ)) → finite.get t.names name ≡ Some None → IsPrepareOf d.history name (Some (number, batch)) → AreBeyond t name batch locked
+            → Takes z old name (record { name = name; number = number; batch = batch; locked = locked }) new
+        takes number batch locked left p beyond =
             let h : List Entry = c.history in let q : ℕ = unwrap_or (named h name) 0 in let b = with_taken t h name both in
             let is = under_both (with_taken t h name) r c.seat in
             let named_is : named h name ≡ Some number = ap (λ (entries : List Entry). named entries name) of_log ∙ p.0 in
@@ -204,15 +234,18 @@ module _ {D : Type 0} (z : SharedState D) (old : SeatState) (d : WriteState) (s 
             let f = found_named h name number named_is in
             record {
               name_is = refl;
-              nobodys = let w = k2.stands.0 in let stood = stood_taken z s s2 t k2 in record {
+              nobodys = let w = k2.stands.0 in let found = found_taken z s s2 t k2 in let stood = found.stood in record {
                 world = w;
                 stood = record {
-                  actor = stood.actor;
-                  there = subst (λ (by : ℕ). IsAt (place_at z by) stood.actor w) (ap (λ (x : SeatState). x.by) seat_then) stood.there;
-                  held = stood.held;
-                  participant = stood.participant ∙ ap (λ (x : SeatState). x.knows.participant) seat_then;
-                  made = stood.made ∙ ap (λ (x : SeatState). x.knows.made) seat_then;
-                  joined = stood.joined ∙ ap (λ (x : SeatState). x.knows.joined) seat_then;
+                  stood = record {
+                    actor = stood.actor;
+                    there = subst (λ (by : ℕ). IsAt (place_at z by) stood.actor w) (ap (λ (x : SeatState). x.by) seat_then) stood.there;
+                    held = stood.held;
+                    participant = stood.participant ∙ ap (λ (x : SeatState). x.knows.participant) seat_then;
+                    made = stood.made ∙ ap (λ (x : SeatState). x.knows.made) seat_then;
+                    joined = stood.joined ∙ ap (λ (x : SeatState). x.knows.joined) seat_then;
+                  };
+                  notes = λ fact there. found.notes fact (k.goes.noted fact refl there);
                 };
                 so_is = ap (λ (l : LockState). finite.get l.names name) (taken_are z s s2 t k2) ∙ left;
               };
@@ -222,7 +255,7 @@ module _ {D : Type 0} (z : SharedState D) (old : SeatState) (d : WriteState) (s 
                 transaction = x;
                 has = ap (λ (y : Participant). finite.get y.transactions name) goes.participant ∙ at_inserted old.knows.participant.transactions name x name refl;
                 batch_is = batch_is;
-                keys = λ key. c.keys key ∙ ap (λ (changes : List Change). is_changed changes key) batch_is;
+                keys = taken_keys t name batch locked (λ key changed. c.keys key (ap (λ (changes : List Change). is_changed changes key) batch_is ∙ changed)) beyond;
                 noted = gave_log.goes.noted (undecided_at name number) refl (gave.goes.noted (undecided_at name number) refl
                     (subst (λ (y : SeatState). IsIn (undecided_at name number) y.knows.notes) (sym is) (inl (ap (undecided_at name) number_is))));
                 seen = subst (λ (entries : List Entry). number ≤ length entries) (sym seen) (undecided_within h number f.0).1;

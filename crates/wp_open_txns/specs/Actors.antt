@@ -10,7 +10,7 @@ use Rattle.wp_model.specs.declared.holder.Holder.TheVariants.{Txn, Client}
 use Rattle.wp_model.specs.History.{batch_at, named}
 use Rattle.wp_shared.specs.Notes.{with_note}
 use Rattle.wp_core.specs.States.{locks}
-use Rattle.wp_core.specs.Views.{claimed, took, locked, told, heard, found, stopped, based_at, unprepared, undecided_at, direct_free}
+use Rattle.wp_core.specs.Views.{claimed, took, locked, told, heard, found, stopped, unprepared, undecided_at, direct_free, unchanged, based_at}
 use Rattle.wp_core.specs.World.{Transaction, Participant, Actor}
 use Rattle.wp_core.specs.Changes.{held_with, keys_of_holder, sees, remembers, has_transaction, has_no_transaction, has_direct, with_name, with_key, with_label}
 use Rattle.wp_rule.specs.Accounts.{account_of}
@@ -31,6 +31,10 @@ transaction_in p name = unwrap_or (finite.get p.transactions name) no_changes
 abbrev pub with_key_locked : List ℕ → Transaction → Transaction
 with_key_locked key x = record x { locked = set.insert x.locked key }
 
+-- with one key less
+abbrev pub with_key_freed : List ℕ → Transaction → Transaction
+with_key_freed key x = record x { locked = set.remove x.locked key }
+
 -- it claimed a name, and noted that no undecided prepare has it
 abbrev pub with_claimed : LockState → List ℕ → Actor → Actor
 with_claimed t name a = let b = holding (with_name t name (Some a.participant.client)) (remembers (has_transaction a name no_changes) (claimed name)) in record b { notes = unprepared name ∷ a.notes }
@@ -39,9 +43,14 @@ with_claimed t name a = let b = holding (with_name t name (Some a.participant.cl
 abbrev pub with_found : LockState → ℕ → Option (List ℕ) → Holder → Actor → Actor
 with_found t published key holder a = remembers a (found key holder (length a.participant.seen) (account_of a.participant t published key holder))
 
--- it locked a key for its transaction
-abbrev pub with_locked : LockState → List ℕ → List ℕ → Actor → Actor
-with_locked t name key a = holding (with_key t key (Txn name)) (remembers (has_transaction a name (with_key_locked key (transaction_in a.participant name))) (locked key (Txn name)))
+-- It locked a key for its transaction, and saw this history. It noted that the key is unchanged since all of it.
+abbrev pub with_locked : LockState → List Entry → List ℕ → List ℕ → Actor → Actor
+with_locked t history name key a =
+    with_note (unchanged name key (length history)) (sees history (holding (with_key t key (Txn name)) (remembers (has_transaction a name (with_key_locked key (transaction_in a.participant name))) (locked key (Txn name)))))
+
+-- it freed a key of its transaction, and the state is this
+abbrev pub freeing_key : LockState → List ℕ → List ℕ → Actor → Actor
+freeing_key t name key a = holding t (has_transaction a name (with_key_freed key (transaction_in a.participant name)))
 
 -- it locked a key for its direct write, and noted that no undecided prepare has the key
 abbrev pub with_direct : LockState → List ℕ → Actor → Actor

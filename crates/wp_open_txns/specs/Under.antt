@@ -17,8 +17,8 @@ use Rattle.wp_shared.specs.Notes.{seat_of}
 use Rattle.wp_shared.specs.Seats.{SeatState}
 use Rattle.wp_open_txns.specs.declared.error.TxnError.{TxnError}
 use Rattle.wp_open_txns.specs.declared.error.TxnError.TheVariants.{Memory, Taken, Busy, Silent, Unknown, InUse}
-use Rattle.wp_open_txns.specs.Actors.{with_claimed, with_found, with_locked, with_direct, with_told, with_heard}
-use Rattle.wp_open_txns.specs.Turns.{TakesPrepare}
+use Rattle.wp_open_txns.specs.Actors.{with_claimed, with_found, with_direct, with_told, with_heard}
+use Rattle.wp_open_txns.specs.Turns.{LocksUnchanged, TakesPrepare}
 
 -- the name is live, and the seat found that, when no fewer entries were published than it had seen
 abbrev pub FindsName : LockState → SeatState → List ℕ → LockState → SeatState → Type 0
@@ -42,7 +42,7 @@ LocksFor old s key holder (Err Memory) new t = (new ≡ old) × (t ≡ s)
 LocksFor old s key holder (Err other) new t = ⊥
 
 abbrev pub LocksKey : LockState → SeatState → List ℕ → List ℕ → Result (Unit {0}) TxnError → LockState → SeatState → Type 0
-LocksKey old s name key (Ok done) new t = (new ≡ with_key old key (Txn name)) × (t ≡ seat_of s (with_locked old name key s.knows)) × (finite.get old.keys key ≡ None)
+LocksKey old s name key (Ok done) new t = (new ≡ with_key old key (Txn name)) × LocksUnchanged s old name key t
 LocksKey old s name key (Err why) new t = LocksFor old s key (Txn name) (Err why) new t
 
 abbrev pub LocksDirect : LockState → SeatState → List ℕ → Result (Unit {0}) TxnError → LockState → SeatState → Type 0

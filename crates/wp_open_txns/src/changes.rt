@@ -1,66 +1,39 @@
 //! The changes of an open transaction.
-ghost use Rattle.std.specs.Prelude.{◌≡◌, [], true, false, is_some};
-ghost use Rattle.std.specs.FinSet as set;
-ghost use Rattle.std.specs.FinMap as finite;
-ghost use Rattle.wp_core.specs.Lists.{IsIn};
-ghost use Rattle.wp_core.specs.States.{locks};
-ghost use Rattle.wp_core.specs.Views.{unprepared};
-ghost use Rattle.wp_model.specs.declared.holder.Holder.TheVariants.{Txn};
-ghost use Rattle.wp_shared.specs.Seats.{IsFree, participant_of};
-ghost use Rattle.wp_shared.specs.Turns.{HoldsTurn};
-ghost use Rattle.wp_open_txns.specs.Actors.{transaction_in};
+ghost use Rattle.std.specs.Prelude.{◌≡◌, ◌<◌, false, not, length, filter};
+ghost use Rattle.std.specs.Str.{bytes_eq};
+ghost use Rattle.wp_model.specs.declared.batch.TheConstants.{MOST_KEYS};
+ghost use Rattle.wp_model.specs.Batch.{key_of};
+ghost use Rattle.wp_model.specs.History.{is_changed};
+ghost use Rattle.wp_shared.specs.Seats.{IsFree};
 ghost use Rattle.wp_open_txns.specs.Calls.{Changes};
-ghost use Rattle.wp_open_txns.specs.Keys.{ChangesBatch, HoldsKey};
+ghost use Rattle.wp_open_txns.specs.Keys.{ChangesBatch, ComesTo};
 ghost use Rattle.wp_open_txns.specs.Txn.{HasOpen};
-ghost use Rattle.wp_open_txns.specs.Under.{LocksKey};
 
 use crate::error::TxnError;
-use crate::locking::lock_for;
-use crate::steps::{lock_key, set_batch};
+use crate::steps::set_batch;
 use crate::txn::OpenTxn;
+use crate::validating::take_key;
 use std::alloc::Global;
 use std::sync::Wait;
-use wp_locks::Locks;
-use wp_model::{Batch, Change, Holder, Key, Name, SetError};
+use wp_model::{Batch, Change, Key, SetError};
 use wp_outside::Disk;
 use wp_shared::{Seat, Shared};
 
-/// The batch with the change.
+/// The batch with the change, for which it has room.
 fn with_change(alloc: Global, batch: &Batch, change: Change) -> Result<Batch, TxnError>
+    requires { is_changed batch.now (key_of change) ≡ false → length batch.now < MOST_KEYS }
     ensures { ChangesBatch batch.now change result }
 {
     let mut changed = batch.copy(alloc)?;
     match changed.set(change) {
         Ok(()) => Ok(changed),
         Err(SetError::Memory) => Err(TxnError::Memory),
-        Err(SetError::TooMany) => Err(TxnError::TooMany),
+        Err(SetError::TooMany) => unreachable!(),
     }
 }
 
-/// Locks the key for the transaction of this name, or finds its holder.
-fn lock<D: Disk + Drop>(
-    store: &Shared<D>,
-    seat: &mut Seat<D>,
-    tables: &mut Locks,
-    name: &Name,
-    key: &Key,
-    holder: Holder,
-) -> Result<(), TxnError>
-    requires seat { HoldsTurn store.now seat.old (locks tables.old) [] [] }
-    requires holder { holder ≡ Txn name.now }
-    requires has { is_some (finite.get seat.old.knows.participant.transactions name.now) ≡ true }
-    requires unlocked { set.contains (transaction_in (participant_of seat.old) name.now).locked key.now ≡ false }
-    requires noted { IsIn (unprepared name.now) seat.old.knows.notes }
-    ensures answered { LocksKey tables.old seat.old name.now key.now result tables.new seat.new }
-    ensures holds { HoldsTurn store.now seat.new (locks tables.new) [] [] }
-{
-    lock_for(store, seat, tables, key, holder)?;
-    lock_key(store, seat, name, key);
-    Ok(())
-}
-
-/// Locks the key for the transaction, unless the key has a change there already.
-fn hold_key<D: Disk + Drop, R: Wait>(
+/// Locks the key for the transaction, unless it has it already.
+fn come_to<D: Disk + Drop, R: Wait>(
     store: &Shared<D>,
     rt: &R,
     alloc: Global,
@@ -70,20 +43,23 @@ fn hold_key<D: Disk + Drop, R: Wait>(
 ) -> Result<(), TxnError>
     requires free { IsFree store.now.table seat.old }
     requires open { HasOpen seat.old txn.now }
-    ensures { HoldsKey store.now seat.old txn.now key.now result seat.new }
+    ensures { ComesTo store.now seat.old txn.now key.now result seat.new }
 {
-    if txn.batch.get(key).is_some() {
+    if txn.has_key(key) {
         return Ok(());
     }
-    let holder = Holder::Txn(txn.name.copy(alloc)?);
-    let mut tables = store.take_turn::<Locks, R>(rt, seat);
-    let outcome = lock(store, seat, &mut tables, &txn.name, key, holder);
-    store.give_turn(seat, tables);
-    outcome
+    take_key(store, rt, alloc, seat, txn, key)
 }
 
-/// Takes the change into the transaction's batch, in place of an earlier one to its key. The key is locked for the transaction until
-/// that is decided or dropped.
+/// Takes the key out of those that are locked without a change.
+fn let_go(locked: &mut Vec<Key>, key: &Key)
+    ensures { locked.new.items ≡ filter (λ other. not (bytes_eq other key.now)) locked.old.items }
+{
+    locked.retain(|other| other != key);
+}
+
+/// Takes the change into the transaction's batch, in place of an earlier one to its key. A key of which the transaction has nothing is
+/// locked for it, and has to be unchanged since the pin; one that it locked without a change moves to the batch.
 pub fn stage<D: Disk + Drop, R: Wait>(
     store: &Shared<D>,
     rt: &R,
@@ -97,9 +73,13 @@ pub fn stage<D: Disk + Drop, R: Wait>(
     ensures { Changes store.now seat.old txn.old change result seat.new txn.new }
 {
     let key = change.key().copy(alloc)?;
+    if txn.has_no_room(&key) {
+        return Err(TxnError::TooMany);
+    }
     let batch = with_change(alloc, &txn.batch, change)?;
-    hold_key(store, rt, alloc, seat, txn, &key)?;
+    come_to(store, rt, alloc, seat, txn, &key)?;
     set_batch(store, seat, &txn.name, &batch);
+    let_go(&mut txn.locked, &key);
     txn.batch = batch;
     Ok(())
 }

@@ -13,8 +13,10 @@ pub enum TxnError {
     Taken(Name),
     /// This one holds the key.
     Busy(Holder),
-    /// 64 keys are changed already, and this one is none of them.
+    /// 64 keys are changed or locked already, and this one is none of them.
     TooMany,
+    /// The key was changed since the pin, by this entry last.
+    Conflict(Seq),
     /// The board has no such label.
     Silent,
     /// The name is not live; `at` is the number published then.

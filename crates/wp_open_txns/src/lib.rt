@@ -4,8 +4,11 @@
 //! it does it does while it holds the turn that guards the state concerned, by steps of the machine of `wp_core`; its
 //! clause says what the seat's actor then has and remembers, and of a refusal also what the state held as it found that.
 //!
-//! - `begin` claims a name for an open transaction. `stage` takes a change into its batch, and locks the change's key first
-//!   where the batch has none of it. `abandon` drops it, with its name and its keys.
+//! - `begin` claims a name for an open transaction. `stage` takes a change into its batch, and `lock` reads a key for it: both lock
+//!   the key first, where the transaction has nothing of it. `abandon` drops the transaction, with its pin, its name and its keys.
+//! - `pin` gives the transaction a snapshot of all that is published. A key that comes to it later has to be unchanged since: behind
+//!   the lock of the key the history tells whether it is, and if not, the key is free again and the number of the last change is the
+//!   answer. So from the pin to its own end none of its keys is changed by others.
 //! - `leave` gives up a prepared transaction, whose name stays live and whose keys stay held, and `take_prepared` takes one that
 //!   nobody has.
 //! - `tell` and `hear`: labels on a board, by which one client lets another see what it has seen.
@@ -21,14 +24,18 @@ mod changes;
 mod error;
 mod locking;
 mod names;
+mod pinning;
 mod prepared;
 mod steps;
 mod txn;
+mod validating;
 
 pub use board::{hear, tell};
 pub use changes::stage;
 pub use error::{Refused, TxnError};
 pub use locking::{free, lock_for};
 pub use names::{abandon, begin};
+pub use pinning::{pin, unpin};
 pub use prepared::{leave, take_prepared};
 pub use txn::{OpenTxn, PreparedTxn};
+pub use validating::{Locked, lock};

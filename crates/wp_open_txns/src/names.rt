@@ -3,12 +3,13 @@ ghost use Rattle.std.specs.Prelude.{◌≡◌, []};
 ghost use Rattle.wp_core.specs.States.{locks};
 ghost use Rattle.wp_shared.specs.Seats.{IsFree};
 ghost use Rattle.wp_shared.specs.Turns.{HoldsTurn};
-ghost use Rattle.wp_open_txns.specs.Calls.{Begins, GivesUp, LocksWere, IsFreeName};
+ghost use Rattle.wp_open_txns.specs.Calls.{Abandons, Begins, IsFreeName, LocksAre};
 ghost use Rattle.wp_open_txns.specs.Txn.{HasOpen};
 ghost use Rattle.wp_open_txns.specs.Under.{Claims};
 
 use crate::error::TxnError;
 use crate::locking::free;
+use crate::pinning::unpin;
 use crate::steps::{claim_name, find_name};
 use crate::txn::OpenTxn;
 use std::alloc::Global;
@@ -66,15 +67,24 @@ pub fn begin<D: Disk + Drop, R: Wait>(
     Ok(OpenTxn {
         name,
         batch: Batch::new(alloc),
+        locked: Vec::new(alloc),
+        pin: None,
     })
 }
 
-/// Drops an open transaction: its name and its keys are free again. It takes no memory.
+/// Drops an open transaction: its pin is released, and its name and its keys are free again. It takes no memory.
 pub fn abandon<D: Disk + Drop, R: Wait>(store: &Shared<D>, rt: &R, seat: &mut Seat<D>, txn: OpenTxn)
     requires free { IsFree store.now.table seat.old }
     requires open { HasOpen seat.old txn }
-    ensures gives_up { GivesUp store.now seat.old seat.new txn.name }
-    ensures freed { LocksWere store.now seat.new (IsFreeName txn.name) }
+    ensures gives_up { Abandons store.now seat.old seat.new txn }
+    ensures freed { LocksAre store.now seat.new (IsFreeName txn.name) }
 {
-    free(store, rt, seat, txn);
+    let OpenTxn {
+        name,
+        batch,
+        locked,
+        pin,
+    } = txn;
+    unpin(store, rt, seat, pin);
+    free(store, rt, seat, name, batch, locked);
 }

@@ -1,25 +1,29 @@
 //! Prepared transactions that change hands.
-ghost use Rattle.std.specs.Prelude.{◌≡◌, ℕ, List, Some, None, IfOk};
+ghost use Rattle.std.specs.Prelude.{◌≡◌, ℕ, List, Some, None, IfOk, IfSome};
 ghost use Rattle.std.specs.FinMap as finite;
+ghost use Rattle.wp_locks.specs.Locks.{AreBeyond};
+ghost use Rattle.wp_core.specs.Lists.{IsIn};
 ghost use Rattle.wp_core.specs.States.{Content, locks};
+ghost use Rattle.wp_core.specs.Views.{locks_stay};
 ghost use Rattle.wp_shared.specs.Seats.{IsFree};
 ghost use Rattle.wp_shared.specs.Turns.{HoldsTurn};
-ghost use Rattle.wp_open_txns.specs.Calls.{GivesUp, LocksWere, TakesPrepared};
-ghost use Rattle.wp_open_txns.specs.Txn.{HasPrepared};
+ghost use Rattle.wp_open_txns.specs.Calls.{GivesUp, LocksAre, TakesPrepared};
+ghost use Rattle.wp_open_txns.specs.Txn.{HasPrepared, keys_in};
 ghost use Rattle.wp_open_txns.specs.Under.{IsPrepareOf, TakesUnder};
 
 use crate::error::TxnError;
-use crate::steps::{find_name, leave_name, take_name};
+use crate::steps::{find_name, leave_name, note_locks, take_name};
 use crate::txn::PreparedTxn;
 use std::alloc::{AllocError, Global};
 use std::sync::Wait;
 use wp_history::History;
 use wp_locks::{LockError, Locks, TakeRefused};
-use wp_model::{Batch, Name, Seq};
+use wp_model::{Batch, Key, Name, Seq};
 use wp_outside::Disk;
 use wp_shared::{Log, Seat, Shared};
 
-/// Leaves a prepared transaction to whoever takes it: its name stays live, and its keys stay held. It takes no memory.
+/// Leaves a prepared transaction to whoever takes it: its name stays live, and its keys stay held, which the seat notes. It takes no
+/// memory.
 pub fn leave<D: Disk + Drop, R: Wait>(
     store: &Shared<D>,
     rt: &R,
@@ -29,14 +33,17 @@ pub fn leave<D: Disk + Drop, R: Wait>(
     requires free { IsFree store.now.table seat.old }
     requires prepared { HasPrepared seat.old txn }
     ensures gives_up { GivesUp store.now seat.old seat.new txn.name }
-    ensures left { LocksWere store.now seat.new (λ t. finite.get t.names txn.name ≡ Some None) }
+    ensures left { LocksAre store.now seat.new (λ t. finite.get t.names txn.name ≡ Some None) }
+    ensures noted { IsIn (locks_stay txn.name txn.number (keys_in txn.batch txn.locked)) seat.new.knows.notes }
 {
+    note_locks(store, seat, &txn);
     let mut tables = store.take_turn::<Locks, R>(rt, seat);
     leave_name(store, seat, &tables, &txn);
     let PreparedTxn {
         name,
         number: _number,
         batch: _batch,
+        locked: _locked,
     } = txn;
     tables.leave_name(&name);
     store.give_turn(seat, tables);
@@ -54,6 +61,21 @@ fn prepare_of(
         return Ok(None);
     };
     Ok(Some((number, history.batch_at(number).copy(alloc)?)))
+}
+
+/// The keys that are held for the transaction beyond those of its prepare. Without a prepare there are none to be taken.
+fn keys_beyond(
+    tables: &Locks,
+    alloc: Global,
+    name: &Name,
+    prepare: Option<&(Seq, Batch)>,
+) -> Result<Vec<Key>, AllocError>
+    ensures { IfOk result (λ keys. IfSome prepare.entry (λ p. AreBeyond tables.now name.now p.now.1 keys.items)) }
+{
+    match prepare {
+        Some((_, batch)) => tables.keys_of(name, batch),
+        None => Ok(Vec::new(alloc)),
+    }
 }
 
 /// Takes the name for the seat's client, or finds that it is not live, or a client's.
@@ -110,6 +132,11 @@ pub fn take_prepared<D: Disk + Drop, R: Wait>(
         return Err(TxnError::Memory);
     };
     let mut tables = store.take_turn::<Locks, R>(rt, seat);
+    let Ok(locked) = keys_beyond(&tables, alloc, name, prepare.as_ref()) else {
+        store.give_turn(seat, tables);
+        store.give_turn(seat, log);
+        return Err(TxnError::Memory);
+    };
     let outcome = take_under(store, seat, &mut tables, name, asked, client);
     store.give_turn(seat, tables);
     store.give_turn(seat, log);
@@ -121,5 +148,6 @@ pub fn take_prepared<D: Disk + Drop, R: Wait>(
         name: taken,
         number,
         batch,
+        locked,
     })
 }

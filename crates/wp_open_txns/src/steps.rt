@@ -3,29 +3,32 @@ ghost use Rattle.std.specs.Prelude.{◌≡◌, ◌≤◌, ℕ, true, false, List
 ghost use Rattle.std.specs.FinSet as set;
 ghost use Rattle.std.specs.FinMap as finite;
 ghost use Rattle.wp_model.specs.Batch.{is_batch};
+ghost use Rattle.wp_model.specs.Changed.{IsUnchanged};
 ghost use Rattle.wp_model.specs.declared.entry.Entry.{Entry};
 ghost use Rattle.wp_model.specs.declared.holder.Holder.TheVariants.{Txn};
 ghost use Rattle.wp_model.specs.LockState.{LockState};
 ghost use Rattle.wp_locks.specs.Locks.{is_free_for};
-ghost use Rattle.wp_core.specs.Changes.{is_held_by, with_name, without_transaction};
+ghost use Rattle.wp_core.specs.Changes.{is_held_by, with_name, without_key, without_transaction};
 ghost use Rattle.wp_core.specs.Lists.{IsIn};
 ghost use Rattle.wp_core.specs.Sound.Actors.{StartsWith};
-ghost use Rattle.wp_core.specs.States.{locks};
-ghost use Rattle.wp_core.specs.Views.{unprepared};
+ghost use Rattle.wp_core.specs.Sound.Views.{OwnsKey};
+ghost use Rattle.wp_core.specs.States.{writes, locks};
+ghost use Rattle.wp_core.specs.Views.{locks_stay, unprepared, unchanged};
 ghost use Rattle.wp_core.specs.World.{World};
-ghost use Rattle.wp_shared.specs.Notes.{seat_of};
+ghost use Rattle.wp_shared.specs.Notes.{noting, seat_of};
 ghost use Rattle.wp_shared.specs.Seats.{Stands, held_by, participant_of, seen_by};
+ghost use Rattle.wp_shared.specs.Turns.{history_in};
 ghost use Rattle.wp_open_txns.specs.Calls.{WasHistory};
-ghost use Rattle.wp_open_txns.specs.Actors.{transaction_in, with_claimed, with_found, with_locked, with_batch, with_told, with_heard};
-ghost use Rattle.wp_open_txns.specs.Turns.{IsWithout, TakesPrepare};
-ghost use Rattle.wp_open_txns.specs.Txn.{HasPrepared};
+ghost use Rattle.wp_open_txns.specs.Actors.{transaction_in, with_claimed, with_found, with_batch, with_told, with_heard};
+ghost use Rattle.wp_open_txns.specs.Turns.{IsWithout, IsWithoutKey, LocksUnchanged, TakesPrepare};
+ghost use Rattle.wp_open_txns.specs.Txn.{HasPrepared, keys_in};
 
 use crate::txn::PreparedTxn;
 use std::marker::Brand;
 use wp_locks::Locks;
 use wp_model::{Batch, Holder, Key, Name, Seq};
 use wp_outside::Disk;
-use wp_shared::{Seat, Shared};
+use wp_shared::{Log, Seat, Shared};
 
 /// The seat claimed the name, which was not live. It still holds the state as it was before.
 pub(crate) fn claim_name<D: Disk + Drop>(store: &Shared<D>, seat: &mut Seat<D>, name: &Name)
@@ -67,7 +70,8 @@ pub(crate) fn find_holder<D: Disk + Drop>(
     store.make_about::<Brand, (&Key, &Holder)>(seat, &(key, holder));
 }
 
-/// The seat locked the key, which nobody held, for its transaction of this name. It still holds the state as it was before.
+/// The seat locked the key, which nobody held, for its transaction of this name, and noted that the key is unchanged since all of the
+/// history that it then saw. It still holds the state as it was before.
 pub(crate) fn lock_key<D: Disk + Drop>(
     store: &Shared<D>,
     seat: &mut Seat<D>,
@@ -79,10 +83,45 @@ pub(crate) fn lock_key<D: Disk + Drop>(
     requires unlocked { set.contains (transaction_in (participant_of seat.old) name.now).locked key.now ≡ false }
     requires noted { IsIn (unprepared name.now) seat.old.knows.notes }
     requires free { (t : LockState) × IsIn (locks t) (held_by seat.old) × (is_free_for (finite.get t.keys key.now) (Txn name.now) ≡ true) }
-    ensures locked { (t : LockState) → IsIn (locks t) (held_by seat.old) → seat.new ≡ seat_of seat.old (with_locked t name.now key.now seat.old.knows) }
-    ensures nobodys { (t : LockState) → IsIn (locks t) (held_by seat.old) → finite.get t.keys key.now ≡ None }
+    ensures { (t : LockState) → IsIn (locks t) (held_by seat.old) → LocksUnchanged seat.old t name.now key.now seat.new }
 {
     store.make_about::<Brand, (&Name, &Key)>(seat, &(name, key));
+}
+
+/// The seat freed a key of its transaction of this name, which is no undecided prepare. It still holds the state as it was before.
+pub(crate) fn free_key<D: Disk + Drop>(
+    store: &Shared<D>,
+    seat: &mut Seat<D>,
+    tables: &Locks,
+    name: &Name,
+    key: &Key,
+)
+    requires seat { seat.old.table ≡ store.now.table }
+    requires held { IsIn (locks tables.now) (held_by seat.old) }
+    requires has { OwnsKey (participant_of seat.old) name.now key.now }
+    requires noted { IsIn (unprepared name.now) seat.old.knows.notes }
+    ensures without { IsWithoutKey seat.old seat.new (without_key tables.now key.now) name.now key.now }
+    ensures stands { (w : World) × Stands store.now seat.new w }
+{
+    store.make_about::<Brand, (&Name, &Key)>(seat, &(name, key));
+}
+
+/// The seat noted that no entry above this number changes the key, which its transaction of this name has locked.
+pub(crate) fn note_unchanged<D: Disk + Drop>(
+    store: &Shared<D>,
+    seat: &mut Seat<D>,
+    log: &Log<D>,
+    name: &Name,
+    key: &Key,
+    number: Seq,
+)
+    requires seat { (seat.old.table ≡ store.now.table) × (seat.old.knows.live ≡ true) }
+    requires held { IsIn (writes log.now.state) (held_by seat.old) }
+    requires has { OwnsKey (participant_of seat.old) name.now key.now }
+    requires unchanged { (number ≤ length (history_in log.now)) × IsUnchanged (history_in log.now) key.now number }
+    ensures { seat.new ≡ noting (unchanged name.now key.now number) seat.old }
+{
+    store.make_about::<Brand, (&Name, &Key, Seq)>(seat, &(name, key, number));
 }
 
 /// The seat's transaction of this name has this batch.
@@ -117,6 +156,15 @@ pub(crate) fn free_transaction<D: Disk + Drop>(
     ensures stands { (w : World) × Stands store.now seat.new w }
 {
     store.make_about::<Brand, Name>(seat, name);
+}
+
+/// The seat noted which keys are held for its transaction, and stay so while that is undecided.
+pub(crate) fn note_locks<D: Disk + Drop>(store: &Shared<D>, seat: &mut Seat<D>, txn: &PreparedTxn)
+    requires seat { (seat.old.table ≡ store.now.table) × (seat.old.knows.live ≡ true) }
+    requires prepared { HasPrepared seat.old txn.now }
+    ensures { seat.new ≡ noting (locks_stay txn.now.name txn.now.number (keys_in txn.now.batch txn.now.locked)) seat.old }
+{
+    store.make_about::<Brand, PreparedTxn>(seat, txn);
 }
 
 /// The seat left its transaction, which is an undecided prepare, to whoever takes it.

@@ -1,5 +1,5 @@
 -- What an install makes of the tables, and what one leaves that failed.
-use Rattle.std.proofs.Common.{◌≡◌, ◌⊎◌, inl, inr, ℕ, Bool, true, false, List, [], ◌∷◌, ◌++◌, length, min, ◌<◌, ◌≤◌, Option, Some, None, append-nil, refl, sym, ap, ◌∙◌, subst, arith}
+use Rattle.std.proofs.Common.{◌≡◌, ◌⊎◌, inl, inr, ℕ, Bool, true, false, List, [], ◌∷◌, ◌++◌, length, min, ◌≤◌, Option, Some, None, append-nil, refl, sym, ap, ◌∙◌, subst, arith}
 use Rattle.std.specs.Prelude.{Result, Ok}
 use Rattle.std.specs.List.{list_all}
 use Rattle.std.specs.Option.{option_or}
@@ -31,7 +31,6 @@ use Rattle.wp_tableset.proofs.DeviceLemmas.{synced_grows, unmoved_grows}
 use Rattle.wp_tableset.proofs.SetLemmas.{Grows, left_of, none_left, passes_grown}
 use Rattle.wp_core.specs.Effects.{with_failed}
 use Rattle.wp_core.specs.States.{Installed}
-use Rattle.wp_core.specs.Views.{Event}
 use Rattle.wp_parts.specs.declared.edits.FailedInstall.{FailedInstall}
 use Rattle.wp_parts.specs.VersionSet.{VersionSetState, IsEdits, asked_for, edits_state, failed_edit}
 use Rattle.wp_parts.specs.Installs.{WrittenInstallState, IsBehind, SurvivesInstall}
@@ -165,11 +164,6 @@ module _ (set first : TableSetState) (base : ℕ) (parts : List (List Version)) 
       durable = durable;
     }
 
-    kept_table : (halted : Bool) → new.halted ≡ halted → (edits_state new first base parts failed).state ≡ record { last = last; failed = failed_edit set.manifest.log.closed failed last; halted = halted }
-    kept_table halted is =
-        let none = open_asked new.manifest.log.closed failed (installed_of base new.manifest.edit parts) still_open ∙ sym none_before in
-        λ i. record { last = same_last i; failed = none i; halted = is i }
-
     -- whatever the edit is to be, a crash leaves those that there are
     pub survives_write : (gone : Gone) (versions : List Version) (flushed : ℕ) → AreInOrder versions → (segment : Segment) (now : VersionSetState) → now.set ≡ new → SurvivesInstall (edits_state set first base parts failed) now (asked_for (record { gone = gone; versions = versions; flushed = flushed }) segment last)
     survives_write gone versions flushed ordered segment now is =
@@ -193,12 +187,6 @@ module _ (set first : TableSetState) (base : ℕ) (parts : List (List Version)) 
 
     pub written_edits : IsEdits (edits_state new first base parts failed)
     written_edits = kept_edits same_manifest (written.stores k.edits parts stored) (λ stopped. let halted = ap (λ (s : TableSetState). s.halted) written.changed in absurd cc) (λ _. ap (λ (s : TableSetState). s.faults) written.changed)
-
-    pub written_table : (edits_state new first base parts failed).state ≡ (edits_state set first base parts failed).state
-    written_table = kept_table same_manifest set.halted (ap (λ (s : TableSetState). s.halted) written.changed)
-
-    pub is_behind : (tables : List (List Version)) (room : ℕ) (past : List Event) → tables ≡ new_parts r.asked.versions → length parts < room → IsBehind (edits_state set first base parts failed) (edits_state new first base parts failed) (record { edit = r; tables = tables; room = room; past = past })
-    is_behind tables room past are fits = record { was = k; written = written; tables_are = are; room = fits; state = written_table; parts = refl; first = refl }
 
   module _ (stopped : NotWritten set new) where
     pub stopped_edits : IsEdits (edits_state new first base parts failed)

@@ -1,6 +1,7 @@
 //! What the write turn guards: the history with its pending record, and the log.
 ghost use Rattle.std.specs.Prelude.{◌≡◌, ◌≢◌, ◌+◌, ◌≤◌, ◌<◌, true, false, List, [], ◌∷◌, ◌++◌, length, None, IfOk, IfErr, OnOk, OnErr};
 ghost use Rattle.wp_model.specs.declared.entry.Entry.{Entry};
+ghost use Rattle.wp_model.specs.Changed.{conflict};
 ghost use Rattle.wp_model.specs.Legal.{IsLegal, log_end, undone_last};
 ghost use Rattle.wp_cuts.specs.Cut.{Cut, IsCut};
 ghost use Rattle.wp_outside.specs.Disk.{images};
@@ -25,7 +26,7 @@ use std::snapshot::Snapshot as Ghost;
 use wp_fields::Format;
 use wp_gatelog::AppendError;
 use wp_history::History;
-use wp_model::{Entry, Segment, Seq};
+use wp_model::{Entry, Key, Segment, Seq};
 use wp_outside::{Disk, Failed};
 use wp_rule::WordSeat;
 use wp_wal::{NewSegment, Wal, Written};
@@ -127,6 +128,16 @@ impl<D: Disk> Log<D> {
         ensures { result ≡ self.now.first.segment.base }
     {
         self.history.base()
+    }
+
+    /// The greatest number above n of an entry of the history that changes the key, if there is one. From the first time on that it is
+    /// asked, it goes through entries only down from the number that was the last then.
+    pub fn changed_after(&mut self, key: &Key, n: Seq) -> Option<Seq>
+        requires { self.old.first.segment.base ≤ n }
+        ensures same { self.new ≡ self.old }
+        ensures last { result ≡ conflict self.old.state.history key.now n }
+    {
+        self.history.changed_after(self.alloc, key, n)
     }
 
     /// The entries that are pending.

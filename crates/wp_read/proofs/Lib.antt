@@ -11,3 +11,4 @@ pub mod HeldKeys
 pub mod Counts
 pub mod AllPinned
 pub mod AtOnce
+pub mod Fresh

@@ -3,3 +3,4 @@ pub mod Decides
 pub mod Registers
 pub mod Values
 pub mod AtOnce
+pub mod Fresh

@@ -1,5 +1,5 @@
 -- How a snapshot is registered and released.
-use Rattle.std.specs.Prelude.{◌≡◌, ◌⊎◌, ◌↔◌, ℕ, suc, ◌≤◌, true, List, [], ◌∷◌, ◌++◌, length, map, fold, unwrap_or, Option, Some, Result, Ok, Err, MatchOption, if◌then◌else◌}
+use Rattle.std.specs.Prelude.{◌≡◌, ◌⊎◌, ◌↔◌, ℕ, suc, ◌≤◌, true, List, [], ◌∷◌, ◌++◌, length, map, fold, unwrap_or, Option, Some, None, Result, Ok, Err, MatchOption, if◌then◌else◌}
 use Rattle.std.specs.FinMap as finite
 use Rattle.std.specs.List.{Contains, list_any}
 use Rattle.std.specs.List.Sorted.{IsStrictlyIncreasing}
@@ -45,6 +45,15 @@ before_last r (s ∷ others) = if list_any (is_same_registration r) others then 
 abbrev pub behind_last : Registration → List Registration → List Registration
 behind_last r [] = []
 behind_last r (s ∷ others) = if list_any (is_same_registration r) others then behind_last r others else others
+
+-- all but the last of this one, where one is given
+abbrev pub without_last : Option Registration → List Registration → List Registration
+without_last None registered = registered
+without_last (Some r) registered = before_last r registered ++ behind_last r registered
+
+-- the participant without that registration
+abbrev pub unregistering : Option Registration → Participant → Participant
+unregistering r p = record p { registered = without_last r p.registered }
 
 -- ---- steps
 

@@ -13,7 +13,7 @@
 //! them the store still has may change between two rounds of copies; what was decided of a version does not.
 //!
 //! `begin_read` reads a key as it is now under the snapshots turn, without a snapshot that others see, where loads that need no turn
-//! show its newest version. Else it gives a snapshot for a `get`.
+//! show its newest version. Else it gives a snapshot for a `get`. `get_now` does both.
 //!
 //! `prior` is what a rollback restores: the changes that leave the keys of a batch with what they had at a snapshot.
 //!
@@ -27,6 +27,7 @@ mod answers;
 mod at_once;
 mod deciding;
 pub mod laws;
+mod now;
 mod pinning;
 mod priors;
 mod registering;
@@ -37,6 +38,7 @@ mod values;
 pub use answers::{Free, Look};
 pub use at_once::{Begun, begin_read};
 pub use deciding::{decide_free, look, visible};
+pub use now::get_now;
 pub use pinning::pin_all;
 pub use priors::prior;
 pub use registering::{brief_snapshot, release, snapshot};

@@ -13,7 +13,7 @@ ghost use Rattle.wp_shared.specs.Calls.{Continues};
 ghost use Rattle.wp_shared.specs.Notes.{is_under, GoesOn};
 ghost use Rattle.wp_shared.specs.Seats.{IsFree, held_by, participant_of, seen_by};
 ghost use Rattle.wp_shared.specs.Turns.{HoldsTurn};
-ghost use Rattle.wp_read.specs.Registers.{ChangesSnapshots, HasLeast, IsTaken, IsTakenAt, IsTakenWithLeast, MayRegister, registered_by, registration_of};
+ghost use Rattle.wp_read.specs.Registers.{ChangesSnapshots, HasLeast, IsTaken, IsTakenAt, IsTakenWithLeast, MayRegister, registered_by, registration_of, without_last};
 
 use crate::registration::{NOTHING_KNOWN, Snapshot};
 use crate::steps::{lower_old_flag, register, unregister, unregister_last};
@@ -134,7 +134,9 @@ fn release_in<D: Disk + Drop>(
     requires holds { HoldsTurn store.now seat.old (table.snapshots snaps.old) [] [] }
     ensures { (front : List Registration) × (back : List Registration) × (seat.old.knows.participant.registered ≡ front ++ snapshot ∷ back)
         × (IsIn snapshot back → ⊥)
-        × ChangesSnapshots store.now seat.old seat.new (record (participant_of seat.old) { registered = front ++ back }) snaps.new [] [] }
+        × ChangesSnapshots store.now seat.old seat.new (record (participant_of seat.old) { registered = front ++ back }) snaps.new [] []
+        × (front ++ back ≡ without_last (Some snapshot) seat.old.knows.participant.registered)
+        × (participant_of seat.new ≡ record (participant_of seat.old) { registered = front ++ back }) }
 {
     unregister(store, seat, &snapshot);
     withdraw(snaps, snapshot);
@@ -190,7 +192,9 @@ pub fn release<D: Disk + Drop, R: Wait>(
     requires registered { IsIn snapshot seat.old.knows.participant.registered }
     ensures { (front : List Registration) × (back : List Registration) × (seat.old.knows.participant.registered ≡ front ++ snapshot ∷ back)
         × (IsIn snapshot back → ⊥)
-        × Continues store.now seat.old seat.new (record (participant_of seat.old) { registered = front ++ back }) }
+        × Continues store.now seat.old seat.new (record (participant_of seat.old) { registered = front ++ back })
+        × (front ++ back ≡ without_last (Some snapshot) seat.old.knows.participant.registered)
+        × (participant_of seat.new ≡ record (participant_of seat.old) { registered = front ++ back }) }
 {
     let mut snaps = store.take_turn::<Snaps, R>(rt, seat);
     let was_empty = snaps.none_kept();

@@ -4,6 +4,7 @@ use Rattle.std.specs.FinMap as finite
 use Rattle.wp_model.specs.declared.change.Change.{Change}
 use Rattle.wp_model.specs.declared.entry.Entry.{Entry}
 use Rattle.wp_model.specs.declared.entry.Entry.TheVariants.{Prepare, Commit, Undo, Close}
+use Rattle.wp_model.specs.declared.holder.Holder.TheVariants.{Txn}
 use Rattle.wp_model.specs.History.{is_changed, is_prepare}
 use Rattle.wp_model.specs.Legal.{IsLegal}
 use Rattle.wp_judge.specs.Words.{CommitPair, commit_pair}
@@ -12,8 +13,9 @@ use Rattle.wp_core.specs.Conditions.{HasTransaction, IsPrepare}
 use Rattle.wp_model.specs.Record.{IsOneRecord}
 use Rattle.wp_core.specs.Entries.{next_of, pair_by, pending_pair, written}
 use Rattle.wp_core.specs.States.{WriteState, writes}
+use Rattle.wp_core.specs.Lists.{IsIn}
 use Rattle.wp_core.specs.Views as view
-use Rattle.wp_core.specs.Views.{Fact, passed, in_old_commits, words_stay, versions_in_memory, versions_nowhere, number_in_heap, number_not_in_heap, unprepared}
+use Rattle.wp_core.specs.Views.{Fact, passed, in_old_commits, words_stay, versions_in_memory, versions_nowhere, number_in_heap, number_not_in_heap, unprepared, locked}
 use Rattle.wp_core.specs.World.{Transaction, Participant, Actor}
 use Rattle.wp_core.proofs.HistoryLaws.{first_legal}
 use Rattle.wp_rule.specs.Knows.{KnowsHeld, Noted}
@@ -33,15 +35,20 @@ use Rattle.wp_records.proofs.Words.{pending_decides, pending_order, way_publishe
 
 -- ---- what is owned
 
-module _ (a b : Actor) (direct : b.participant.direct ≡ a.participant.direct) (transactions : b.participant.transactions ≡ a.participant.transactions) where
+module _ (a b : Actor) (direct : b.participant.direct ≡ a.participant.direct) (transactions : b.participant.transactions ≡ a.participant.transactions) (past : b.participant.past ≡ a.participant.past) where
   has_still : (name : List ℕ) (x : Transaction) → HasTransaction a name x → HasTransaction b name x
   has_still name x has = ap (λ m. finite.get m name) transactions ∙ has
+
+  -- how a transaction came to its keys is remembered still
+  came_still : (name : List ℕ) (x : Transaction) (key : List ℕ) → (HasTransaction a name x → IsIn (locked key (Txn name)) a.participant.past) → HasTransaction b name x → IsIn (locked key (Txn name)) b.participant.past
+  came_still name x key came has = subst (IsIn (locked key (Txn name))) (sym past) (came (ap (λ m. finite.get m name) (sym transactions) ∙ has))
 
   -- an entry that is no Write needs no keys
   needs_none : (history : List Entry) (entry : Entry) → written entry ≡ [] → OwnsEntry a history entry → OwnsEntry b history entry
   needs_none history entry none o = record {
     keys = λ key is. absurd (true≢false (sym is ∙ ap (λ (changes : List Change). is_changed changes key) none));
     transaction = λ name is. let t = o.transaction name is in (t.0, has_still name t.0 t.1, t.2);
+    came = λ name batch x key is has locks. came_still name x key (λ had. o.came name batch x key is had locks) has;
   }
 
   -- those behind the first are none
@@ -60,6 +67,7 @@ module _ (a b : Actor) (direct : b.participant.direct ≡ a.participant.direct) 
     owns_still history entry o = record {
       keys = λ key is. held_still key (o.keys key is);
       transaction = λ name is. let t = o.transaction name is in (t.0, has_still name t.0 t.1, t.2);
+      came = λ name batch x key is has locks. came_still name x key (λ had. o.came name batch x key is had locks) has;
     }
 
     pub own_still : (history entries : List Entry) → OwnsEntries a history entries → OwnsEntries b history entries
@@ -141,7 +149,7 @@ module _ {D : Type 0} (z : SharedState D) (s t u : SeatState) (log left : LogSta
           logged = may.logged;
           legal = first_legal log.state.history entry others (subst (λ (e : List Entry). IsLegal (log.state.history ++ e)) pending may.may.legal);
           versions = first.noted versions_in_memory (lets way versions_in_memory refl) versions;
-          owned = owns_still s.knows t.knows (ap (λ (x : Participant). x.direct) same) (ap (λ (x : Participant). x.transactions) same) (λ name there. first.noted (unprepared name) (of_name way name) there) log.state.history entry owned.0;
+          owned = owns_still s.knows t.knows (ap (λ (x : Participant). x.direct) same) (ap (λ (x : Participant). x.transactions) same) (ap (λ (x : Participant). x.past) same) (λ name there. first.noted (unprepared name) (of_name way name) there) log.state.history entry owned.0;
         }
 
     pub entered_in_place : (bound : ℕ) (words : List ℕ) → Noted t.knows (words_stay (bound_with z.cells (length log.state.history) bound words way) (with_way words way)) → IsEntered t.knows z.cells (with_way words way) way → IsInPlace t.knows z.cells log.state entry
@@ -237,7 +245,7 @@ module _ {D : Type 0} (z : SharedState D) (s t u : SeatState) (log left : LogSta
               may = record {
                 legal = subst (λ (x : List Entry × List Entry). IsLegal (x.0 ++ x.1)) (λ i. (sym history_is i, sym pending_is i)) (subst IsLegal (sym (append_assoc log.state.history (entry ∷ []) others)) legal);
                 owned = subst (λ (x : List Entry × List Entry). OwnsEntries u.knows x.0 x.1) (λ i. (sym history_is i, sym pending_is i))
-                    (behind_still s.knows u.knows (ap (λ (x : Participant). x.direct) same) (ap (λ (x : Participant). x.transactions) same) (log.state.history ++ entry ∷ []) others behind owned.1);
+                    (behind_still s.knows u.knows (ap (λ (x : Participant). x.direct) same) (ap (λ (x : Participant). x.transactions) same) (ap (λ (x : Participant). x.past) same) (log.state.history ++ entry ∷ []) others behind owned.1);
               };
               number = λ is. absurd (behind_decides others behind (sym (ap (λ (e : List Entry). is_prepare (next_of e)) pending_is) ∙ is));
               pairs = subst (λ (x : ℕ × List Entry). AreReady u.knows z.cells (length left.state.history) (ways_of z.cells (suc x.0) x.1)) (λ i. (sym longer i, sym pending_is i)) ready;
@@ -256,7 +264,7 @@ joins_still a b cells d same noted k =
     } in
     record {
       logged = k.logged;
-      may = record { legal = k.may.legal; owned = own_still a b (ap (λ (x : Participant). x.direct) same) (ap (λ (x : Participant). x.transactions) same) (λ name there. noted (unprepared name) there) d.history d.pending k.may.owned };
+      may = record { legal = k.may.legal; owned = own_still a b (ap (λ (x : Participant). x.direct) same) (ap (λ (x : Participant). x.transactions) same) (ap (λ (x : Participant). x.past) same) (λ name there. noted (unprepared name) there) d.history d.pending k.may.owned };
       number = λ is. noted number_in_heap (k.number is);
       pairs = are_ready_still a b cells (length d.history) (length d.history) keeps (omega arith) (ways_of cells (suc (length d.history)) d.pending) k.pairs;
       apart = k.apart;

@@ -320,6 +320,7 @@ may_publish p a d entry others held next place w k =
         versions = next.versions;
         keys = next.owned.keys;
         transaction = next.owned.transaction;
+        came = next.owned.came;
         number = place.number;
         pair = λ pair is. let l = place.pair pair is in let cache = (noted_is p a w (words_stay l.0 l.1) k l.2).is_so.1 in (l.0, l.1, l.2, entered_known a l.0 l.1 p.cells pair (sym (ap length cache) ∙ k.cells) l.3 l.4);
       };

@@ -29,7 +29,7 @@ cleared_holds z s t log h k keeps = still_holds z s t log is_of_words h k (words
 
 -- what may be put may be put still, by the same participant, which has noted still what it noted of names
 pub may_still : (a b : Actor) (history entries : List Entry) → b.participant ≡ a.participant → ((name : List ℕ) → Noted a (unprepared name) → Noted b (unprepared name)) → MayPut a history entries → MayPut b history entries
-may_still a b history entries same noted may = record { legal = may.legal; owned = own_still a b (ap (λ (x : Participant). x.direct) same) (ap (λ (x : Participant). x.transactions) same) noted history entries may.owned }
+may_still a b history entries same noted may = record { legal = may.legal; owned = own_still a b (ap (λ (x : Participant). x.direct) same) (ap (λ (x : Participant). x.transactions) same) (ap (λ (x : Participant). x.past) same) noted history entries may.owned }
 
 module _ {D : Type 0} (z : SharedState D) (s t : SeatState) (log mid : LogState) (es : List Entry) (b : IsBegun z s log es t mid) where
   pending_is : mid.state.pending ≡ es

@@ -1,7 +1,10 @@
 -- What a record needs, and what it leaves: its entries in the history, or nothing of it.
 use Rattle.std.specs.Prelude.{◌≡◌, ℕ, suc, Bool, true, false, List, [], ◌∷◌, ◌++◌, length, Some, None, Result, Ok, Err}
 use Rattle.std.specs.FinSet as set
+use Rattle.wp_model.specs.declared.change.Change.{Change}
 use Rattle.wp_model.specs.declared.entry.Entry.{Entry}
+use Rattle.wp_model.specs.declared.entry.Entry.TheVariants.{Prepare}
+use Rattle.wp_model.specs.declared.holder.Holder.TheVariants.{Txn}
 use Rattle.wp_model.specs.History.{is_changed}
 use Rattle.wp_model.specs.Legal.{IsLegal}
 use Rattle.wp_outside.specs.Disk.{Moment, Passes}
@@ -14,7 +17,7 @@ use Rattle.wp_core.specs.Entries.{transaction_of, changes_under, written}
 use Rattle.wp_core.specs.Lists.{IsIn}
 use Rattle.wp_core.specs.Sound.Views.{guarded_by}
 use Rattle.wp_core.specs.States.{WriteState, writes}
-use Rattle.wp_core.specs.Views.{Fact, words_stay, none_waits, log_failed}
+use Rattle.wp_core.specs.Views.{Fact, words_stay, none_waits, log_failed, locked}
 use Rattle.wp_core.specs.World.{Transaction, Actor, Participant, World}
 use Rattle.wp_rule.specs.Knows.{KnowsHeld, Noted}
 use Rattle.wp_cuts.specs.Cut.{Cut, IsCut}
@@ -31,11 +34,12 @@ use Rattle.wp_records.specs.Writing.{HoldsWrite}
 -- ---- before
 
 -- The keys of a Write are held for the seat. The transaction that an entry behind this history is of is the seat's, and has the keys
--- locked that the entry needs.
+-- locked that the entry needs. A transaction that is prepared has no key but what the seat locked itself.
 pub record OwnsEntry (a : Actor) (history : List Entry) (entry : Entry) : Type 0 where
   pub keys : (key : List ℕ) → is_changed (written entry) key ≡ true → KnowsHeld a key
   pub transaction : (name : List ℕ) → transaction_of history entry ≡ Some name
       → (x : Transaction) × HasTransaction a name x × ((key : List ℕ) → is_changed (changes_under history entry) key ≡ true → set.contains x.locked key ≡ true)
+  pub came : (name : List ℕ) (batch : List Change) (x : Transaction) (key : List ℕ) → entry ≡ Prepare name batch → HasTransaction a name x → set.contains x.locked key ≡ true → IsIn (locked key (Txn name)) a.participant.past
 
 -- of each entry behind those before it
 abbrev pub OwnsEntries : Actor → List Entry → List Entry → Type 0

@@ -9,6 +9,7 @@ pub mod Clients
 pub mod OneStep
 pub mod Noting
 pub mod OneStore
+pub mod FromBase
 pub mod Endings
 pub mod Ended
 pub mod Sent

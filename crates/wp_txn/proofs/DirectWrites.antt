@@ -188,7 +188,7 @@ module _ {D : Type 0} (z : SharedState D) (old mid left new : SeatState) (change
         r.0 ∙ ap (λ (es : List Entry). length es) (sym same_seen),
         (
           history,
-          put_within IsLoose IsLoose IsLoose z old mid left new (writing_direct key was) (wrote_direct key was) history (Write (change ∷ []) ∷ []) held.goes_on put same_seen
+          put_within IsLoose IsLoose z old mid left new (writing_direct key was) (wrote_direct key was) history (Write (change ∷ []) ∷ []) held.goes_on put same_seen
               (given _ (λ x. record x { own = x.own ++ numbers_behind (length history) (Write (change ∷ []) ∷ []) }) (λ fact part. part.0) (λ x seen. refl) put.goes_on),
         ),
         (held.found, ended.freed),
@@ -196,7 +196,7 @@ module _ {D : Type 0} (z : SharedState D) (old mid left new : SeatState) (change
 
   refused : (reason : TxnError) → Refuses z mid left 1 (λ asked. asked ≡ Write (change ∷ []) ∷ []) mid.knows.participant mid.knows.participant reason → Refuses z old new 1 (λ asked. asked ≡ Write (change ∷ []) ∷ []) (writing_direct key was) (wrote_direct key was) reason
   refused reason c =
-      refused_within IsLoose z old mid left new 1 (writing_direct key was) (wrote_direct key was) held.goes_on same_seen
+      refused_within z old mid left new 1 (writing_direct key was) (wrote_direct key was) held.goes_on same_seen
       (λ goes. given IsLoose (λ x. x) (λ fact loose. loose) (λ x seen. refl) goes)
       (λ events goes. given IsLoose (with_events events) (λ fact loose. loose) (λ x seen. refl) goes) (λ asked. asked ≡ Write (change ∷ []) ∷ []) (λ asked. asked ≡ Write (change ∷ []) ∷ []) (λ asked is legal. is) reason c
 
@@ -212,7 +212,7 @@ module _ {D : Type 0} (z : SharedState D) (old mid left new : SeatState) (change
   written (Err reason) r = not_written reason r.0
 
   leaves : LeavesDevice z mid.knows.participant mid left → LeavesDevice z (writing_direct key was) old new
-  leaves d = left_within IsLoose z old mid left new (writing_direct key was) held.goes_on same_seen held.saw d
+  leaves d = left_within z old mid left new (writing_direct key was) held.goes_on same_seen held.saw d
 
   left_for : (reason : TxnError) → MayLeaveDevice z mid.knows.participant mid reason left → MayLeaveDevice z (writing_direct key was) old reason new
   left_for why.LogFault d = tt

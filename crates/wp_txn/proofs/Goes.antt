@@ -4,9 +4,10 @@ use Rattle.wp_model.specs.Legal.{IsLegal}
 use Rattle.wp_model.specs.declared.entry.Entry.{Entry}
 use Rattle.wp_core.specs.Views.{Event, Fact, stopped, based_at, log_failed}
 use Rattle.wp_core.specs.World.{Participant}
+use Rattle.wp_core.proofs.PastsGrow.{in_front}
 use Rattle.wp_rule.specs.Words.{IsAt}
 use Rattle.wp_records.specs.Writing.{FoundLog}
-use Rattle.wp_records.specs.Records.{numbers_behind, IsAboutNone, failing, IsUncalled}
+use Rattle.wp_records.specs.Records.{numbers_behind, IsAboutNone, IsUncalled}
 use Rattle.wp_shared.specs.Calls.{ContinuesWith, Continues, with_events}
 use Rattle.wp_shared.specs.Limits.{limit_at}
 use Rattle.wp_shared.specs.Seats.{SharedState, SeatState, IsFree, place_at}
@@ -30,14 +31,15 @@ chain Stays First Second z a b c P Q R one two first second same = record {
 }
 
 -- the log was found by whoever the participant was then but for what it had seen
-abbrev found_from : {D : Type 0} (First : Fact → Type 0) (z : SharedState D) (old mid : SeatState) (p : Participant) (history now : List Entry) (b : Bool) → ContinuesWith First z old mid p → now ≡ history → FoundLog z mid mid.knows.participant history b
+abbrev found_from : {D : Type 0} (z : SharedState D) (old mid : SeatState) (p : Participant) (history now : List Entry) (b : Bool) → Continues z old mid p → now ≡ history → FoundLog z mid mid.knows.participant history b
     → FoundLog z old p now b
-found_from First z old mid p history now b to is_now found = record {
+found_from z old mid p history now b to is_now found = record {
   world = found.world;
   actor = found.actor;
   there = subst (λ (n : ℕ). IsAt (place_at z n) found.actor found.world) to.same_by found.there;
   held = found.held;
   participant = found.participant ∙ ap (λ (x : Participant). record x { seen = history }) to.participant ∙ ap (λ (h : List Entry). record p { seen = h }) (sym is_now);
+  notes = λ fact loose there. found.notes fact loose (to.notes fact loose there);
   made = found.made ∙ to.made;
   joined = found.joined ∙ to.joined;
   history_is = found.history_is ∙ sym is_now;
@@ -45,32 +47,32 @@ found_from First z old mid p history now b to is_now found = record {
 }
 
 -- what was put by a part of a call, which goes on from this participant, was put by the call
-pub put_within : {D : Type 0} (First Part Stays : Fact → Type 0) (z : SharedState D) (old mid left new : SeatState) (found after : Participant) (history entries : List Entry) → ContinuesWith First z old mid found
+pub put_within : {D : Type 0} (Part Stays : Fact → Type 0) (z : SharedState D) (old mid left new : SeatState) (found after : Participant) (history entries : List Entry) → Continues z old mid found
     → HasPut Part z mid left mid.knows.participant mid.knows.participant history entries → new.knows.participant.seen ≡ left.knows.participant.seen
     → ContinuesWith (λ fact. Stays fact × IsAboutNone history entries fact) z old new (record after { own = after.own ++ numbers_behind (length history) entries }) → HasPut Stays z old new found after history entries
-put_within First Part Stays z old mid left new found after history entries to put same goes = record {
+put_within Part Stays z old mid left new found after history entries to put same goes = record {
   grown = starts_on old.knows.participant.seen mid.knows.participant.seen history to.seen put.grown;
-  found_log = found_from First z old mid found history history false to refl put.found_log;
+  found_log = found_from z old mid found history history false to refl put.found_log;
   seen = same ∙ put.seen;
   within = put.within;
   goes_on = goes;
 }
 
 -- the log's device was left alone by a part of a call, before which the seat saw no more, and so by the call
-pub left_within : {D : Type 0} (First : Fact → Type 0) (z : SharedState D) (old mid left new : SeatState) (found : Participant) → ContinuesWith First z old mid found → new.knows.participant.seen ≡ left.knows.participant.seen → SawNoMore old mid
+pub left_within : {D : Type 0} (z : SharedState D) (old mid left new : SeatState) (found : Participant) → Continues z old mid found → new.knows.participant.seen ≡ left.knows.participant.seen → SawNoMore old mid
     → LeavesDevice z mid.knows.participant mid left → LeavesDevice z found old new
-left_within First z old mid left new found to same saw d = ⊎_elim
+left_within z old mid left new found to same saw d = ⊎_elim
     (λ (e : SawNoMore mid left). inl (same ∙ e ∙ saw))
     (λ (k : (closed : Bool) × (found_log : FoundLog z mid mid.knows.participant left.knows.participant.seen closed) × HadLog z found_log.world.writes IsUncalled).
-    inr (k.0, found_from First z old mid found left.knows.participant.seen new.knows.participant.seen k.0 to same k.1, k.2))
+    inr (k.0, found_from z old mid found left.knows.participant.seen new.knows.participant.seen k.0 to same k.1, k.2))
     d
 
 -- ... and what it was refused for, the call was
-module _ {D : Type 0} (First : Fact → Type 0) (z : SharedState D) (old mid left new : SeatState) (needed : ℕ) (found after : Participant) (to : ContinuesWith First z old mid found)
+module _ {D : Type 0} (z : SharedState D) (old mid left new : SeatState) (needed : ℕ) (found after : Participant) (to : Continues z old mid found)
     (same : new.knows.participant.seen ≡ left.knows.participant.seen) (plain : Continues z mid left mid.knows.participant → Continues z old new after)
     (more : (events : List Event) → Continues z mid left (with_events events mid.knows.participant) → Continues z old new (with_events events after)) where
   abbrev found_in : (b : Bool) → FoundLog z mid mid.knows.participant left.knows.participant.seen b → FoundLog z old found new.knows.participant.seen b
-  found_in b k = found_from First z old mid found left.knows.participant.seen new.knows.participant.seen b to same k
+  found_in b k = found_from z old mid found left.knows.participant.seen new.knows.participant.seen b to same k
 
   same_length : length left.knows.participant.seen ≡ length new.knows.participant.seen
   same_length = ap (λ (h : List Entry). length h) (sym same)
@@ -94,12 +96,25 @@ refused_for z old new needed Asks found after other c = c
 
 -- ---- a refusal leaves transactions as they were
 
+-- the participant is what it was, but for what it remembers
+remembers_still : {D : Type 0} (z : SharedState D) (old new : SeatState) (events : List Event) → Continues z old new (with_events events old.knows.participant) → HasStill old new
+remembers_still z old new events goes = still z old new (with_events events old.knows.participant) refl refl (λ event there. in_front event old.knows.participant.past events there) goes
+
 pub refused_still : {D : Type 0} (z : SharedState D) (old new : SeatState) (needed : ℕ) (Asks : List Entry → Type 0) (why : TxnError) → Refuses z old new needed Asks old.knows.participant old.knows.participant why → HasStill old new
-refused_still z old new needed Asks Memory c = still z old new old.knows.participant refl refl c
-refused_still z old new needed Asks (Stopped n) c = still z old new (with_events (stopped n ∷ []) old.knows.participant) refl refl c.2
-refused_still z old new needed Asks (NumbersFull published limit) c = still z old new (with_events (based_at published c.2.world.installed.last.segment.base ∷ []) old.knows.participant) refl refl c.4
-refused_still z old new needed Asks LogFault c = still z old new (failing c.2.0 old.knows.participant) refl refl c.2.2
+refused_still z old new needed Asks Memory c = still z old new old.knows.participant refl refl (λ event there. there) c
+refused_still z old new needed Asks (Stopped n) c = remembers_still z old new (stopped n ∷ []) c.2
+refused_still z old new needed Asks (NumbersFull published limit) c = remembers_still z old new (based_at published c.2.world.installed.last.segment.base ∷ []) c.4
+refused_still z old new needed Asks LogFault c = remembers_still z old new (log_failed c.2.0 ∷ []) c.2.2
 refused_still z old new needed Asks other c = absurd c
+
+-- ... and its snapshots too
+pub refused_registered : {D : Type 0} (z : SharedState D) (old new : SeatState) (needed : ℕ) (Asks : List Entry → Type 0) (why : TxnError) → Refuses z old new needed Asks old.knows.participant old.knows.participant why
+    → new.knows.participant.registered ≡ old.knows.participant.registered
+refused_registered z old new needed Asks Memory c = ap (λ (p : Participant). p.registered) c.participant
+refused_registered z old new needed Asks (Stopped n) c = ap (λ (p : Participant). p.registered) c.2.participant
+refused_registered z old new needed Asks (NumbersFull published limit) c = ap (λ (p : Participant). p.registered) c.4.participant
+refused_registered z old new needed Asks LogFault c = ap (λ (p : Participant). p.registered) c.2.2.participant
+refused_registered z old new needed Asks other c = absurd c
 
 pub refused_free : {D : Type 0} (z : SharedState D) (old new : SeatState) (needed : ℕ) (Asks : List Entry → Type 0) (why : TxnError) → Refuses z old new needed Asks old.knows.participant old.knows.participant why → IsFree z.table new
 refused_free z old new needed Asks Memory c = c.free

@@ -2,14 +2,17 @@
 use Rattle.std.proofs.Common.{◌≡◌, ⊎_elim, inl, inr, ℕ, ◌<◌, ◌≤◌, ◌||◌, Bool, true, false, true≢false, List, [], ◌∷◌, ◌++◌, refl, sym, subst, ap, ◌∙◌, Option, Some, None, is_some, append_assoc, arith}
 use Rattle.std.specs.Prelude.{option_map}
 use Rattle.std.specs.FinMap as finite
+use Rattle.std.specs.FinSet as set
 use Rattle.std.specs.Str.{bytes_eq}
 use Rattle.std.proofs.lemmas.Slice.Eq.{bytes_eq-Decides}
 use Rattle.wp_model.specs.Batch.{key_of, change_to, is_batch}
-use Rattle.wp_model.specs.History.{entry_at, prepared_name, prepared_batch, name_at, batch_at, is_changed, is_undecided, named, holder_of, newest}
+use Rattle.wp_model.specs.History.{entry_at, prepared_name, prepared_batch, name_at, batch_at, is_changed, is_prepare, is_undecided, named, holder_of, newest}
 use Rattle.wp_model.specs.Legal.{IsLegal, IsLegalNext, AreFree, log_end, undone_last, prior}
 use Rattle.wp_model.specs.declared.change.Change.{Change}
 use Rattle.wp_model.specs.declared.entry.Entry.{Entry}
 use Rattle.wp_model.specs.declared.entry.Entry.TheVariants.{Write, Prepare, Commit, Undo, Close}
+use Rattle.wp_model.specs.declared.holder.Holder.TheVariants.{Txn}
+use Rattle.wp_model.specs.LockState.{is_among_keys}
 use Rattle.wp_model.proofs.BatchLemmas.{batch_ascends}
 use Rattle.wp_model.proofs.Entries.{entry_at_old, undecided_within}
 use Rattle.wp_model.proofs.Found.{found_named}
@@ -23,8 +26,8 @@ use Rattle.wp_core.specs.Conditions.{HasTransaction}
 use Rattle.wp_core.specs.Entries.{transaction_of, changes_under, written}
 use Rattle.wp_core.specs.Lists.{IsIn}
 use Rattle.wp_core.specs.States.{WriteState}
-use Rattle.wp_core.specs.Views.{direct_free, undecided_at, unprepared}
-use Rattle.wp_core.specs.World.{Transactions, Participant}
+use Rattle.wp_core.specs.Views.{direct_free, locked, undecided_at, unprepared}
+use Rattle.wp_core.specs.World.{Transaction, Transactions, Participant}
 use Rattle.wp_core.proofs.HistoryGrows.{none_is}
 use Rattle.wp_model.proofs.Tests.{either, same_some, some_none}
 use Rattle.wp_rule.proofs.Knows.{at_sound, noted_is}
@@ -33,7 +36,7 @@ use Rattle.wp_records.specs.Records.{OwnsEntry, MayPut}
 use Rattle.wp_shared.specs.Seats.{SharedState, SeatState, place_at}
 use Rattle.wp_txn.specs.Recording.{OpensLog}
 use Rattle.wp_open_txns.specs.Txn.{OpenState, PreparedState, HasOpen, HasPrepared}
-use Rattle.wp_open_txns.proofs.Adding.{changed_one}
+use Rattle.wp_open_txns.proofs.Keys.{changed_one}
 
 -- ---- numbers
 
@@ -61,6 +64,9 @@ only_key change key changed = ⊎_elim
     (λ (same : bytes_eq (key_of change) key ≡ true). sym ((bytes_eq-Decides (key_of change) key).0 same))
     (λ (none : false ≡ true). absurd (true≢false (sym none)))
     (either (bytes_eq (key_of change) key) false (sym (changed_one change [] key) ∙ changed))
+
+same_name : (one : List ℕ) (batch : List Change) (other : List ℕ) (changes : List Change) → Prepare one batch ≡ Prepare other changes → one ≡ other
+same_name one batch other changes e = same_some one other (ap (λ (it : Entry). Some (prepared_name (Some it))) e)
 
 some_kept : {X : Type 0} {Y : Type 0} (f : X → Y) (o : Option X) → is_some (option_map f o) ≡ is_some o
 some_kept f (Some x) = refl
@@ -107,6 +113,7 @@ module _ {D : Type 0} (z : SharedState D) (old new : SeatState) (log : LogState)
           record {
             keys = λ k changed. inl (ap (λ (p : Participant). p.direct) same_participant ∙ direct ∙ ap (λ (x : List ℕ). Some x) (is ∙ sym (only_key change k changed)));
             transaction = λ name e. absurd (some_none name (sym e));
+            came = λ name batch x k e. let none : Write (change ∷ []) ≡ Prepare name batch = e in absurd cc;
           },
           tt,
         );
@@ -125,13 +132,13 @@ module _ {D : Type 0} (z : SharedState D) (old new : SeatState) (log : LogState)
     open_so =
         let so = (noted_is (place_at z new.by) new.knows o.took.world (unprepared x.name) o.took.stands noted_still).is_so in (
           ap (λ (d : WriteState). named d.history x.name) (sym o.took.is) ∙ so.1,
-          λ key changed. ap (λ (d : WriteState). holder_of d.history key) (sym o.took.is) ∙ so.2 h.transaction key has (h.keys key ∙ changed),
+          λ key changed. ap (λ (d : WriteState). holder_of d.history key) (sym o.took.is) ∙ so.2 h.transaction key has (h.keys key ∙ ap (λ (b : Bool). b || is_among_keys x.locked key) changed),
         )
 
     pub may_write_open : MayPut new.knows history (Write x.batch ∷ [])
     may_write_open = record {
       legal = grows_by (Write x.batch) one (writes_next x.batch whole open_so.1);
-      owned = (record { keys = λ key changed. inr (x.name, h.transaction, has, h.keys key ∙ changed, noted_still); transaction = λ other e. absurd (some_none other (sym e)) }, tt);
+      owned = (record { keys = λ key changed. inr (x.name, h.transaction, has, h.keys key ∙ ap (λ (b : Bool). b || is_among_keys x.locked key) changed, noted_still); transaction = λ other e. absurd (some_none other (sym e)); came = λ other batch y key e. let none : Write x.batch ≡ Prepare other batch = e in absurd cc }, tt);
     }
 
     pub may_prepare : MayPut new.knows history (Prepare x.name x.batch ∷ [])
@@ -140,7 +147,12 @@ module _ {D : Type 0} (z : SharedState D) (old new : SeatState) (log : LogState)
       owned = (
         record {
           keys = λ key changed. absurd (true≢false (sym changed));
-          transaction = λ other e. (h.transaction, subst (λ (n : List ℕ). HasTransaction new.knows n h.transaction) (same_some x.name other e) has, λ key changed. h.keys key ∙ changed);
+          transaction = λ other e. (h.transaction, subst (λ (n : List ℕ). HasTransaction new.knows n h.transaction) (same_some x.name other e) has, λ key changed. h.keys key ∙ ap (λ (b : Bool). b || is_among_keys x.locked key) changed);
+          came = λ other batch y key e there locks.
+              let same : x.name ≡ other = same_name x.name x.batch other batch e in
+              let is : h.transaction ≡ y = same_some h.transaction y (sym has ∙ ap (finite.get new.knows.participant.transactions) same ∙ there) in
+              let held : set.contains h.transaction.locked key ≡ true = ap (λ (t : Transaction). set.contains t.locked key) is ∙ locks in
+              subst (IsIn (locked key (Txn other))) (sym (ap (λ (p : Participant). p.past) same_participant)) (subst (λ (n : List ℕ). IsIn (locked key (Txn n)) old.knows.participant.past) same (h.came key (sym (h.keys key) ∙ held)));
         },
         tt,
       );
@@ -164,21 +176,22 @@ module _ {D : Type 0} (z : SharedState D) (old new : SeatState) (log : LogState)
     pub undecided_still : is_undecided history x.number ≡ true
     undecided_still = (found_named history x.name x.number named_still).0
 
-    owns_end : (before : List Entry) (entry : Entry) → written entry ≡ [] → entry_at before x.number ≡ Some (Prepare x.name x.batch) → transaction_of before entry ≡ Some (name_at before x.number)
+    owns_end : (before : List Entry) (entry : Entry) → written entry ≡ [] → is_prepare (Some entry) ≡ false → entry_at before x.number ≡ Some (Prepare x.name x.batch) → transaction_of before entry ≡ Some (name_at before x.number)
         → ((key : List ℕ) → is_changed (changes_under before entry) key ≡ true → is_changed x.batch key ≡ true) → OwnsEntry new.knows before entry
-    owns_end before entry none there is keys = record {
+    owns_end before entry none ends there is keys = record {
       keys = λ key changed. absurd (true≢false (sym changed ∙ ap (λ (b : List Change). is_changed b key) none));
       transaction = λ other e. (
         h.transaction,
         subst (λ (n : List ℕ). HasTransaction new.knows n h.transaction) (sym (ap prepared_name there) ∙ same_some (name_at before x.number) other (sym is ∙ e)) still_has,
-        λ key changed. h.keys key ∙ keys key changed,
+        λ key changed. h.keys key ∙ ap (λ (b : Bool). b || is_among_keys x.locked key) (keys key changed),
       );
+      came = λ other batch y key e. absurd (true≢false (sym (ap (λ (it : Entry). is_prepare (Some it)) e) ∙ ends));
     }
 
     pub may_commit : 1 ≤ needed → MayPut new.knows history (Commit x.number ∷ [])
     may_commit one = record {
       legal = grows_by (Commit x.number) one (record { orderly = record { ascending = refl; names_undecided = undecided_still; undo_is_closed = nothing_undone; keys_are_free = tt }; restores_prior = tt });
-      owned = (owns_end history (Commit x.number) refl stands_still refl (λ key changed. ap (λ (b : List Change). is_changed b key) (sym (ap prepared_batch stands_still)) ∙ changed), tt);
+      owned = (owns_end history (Commit x.number) refl refl stands_still refl (λ key changed. ap (λ (b : List Change). is_changed b key) (sym (ap prepared_batch stands_still)) ∙ changed), tt);
     }
 
     -- what is restored is what its keys have in the history
@@ -193,8 +206,8 @@ module _ {D : Type 0} (z : SharedState D) (old new : SeatState) (log : LogState)
           legal = subst IsLegal (append_assoc history (Undo x.number restored ∷ []) (Close x.number ∷ []))
               (legal_next grown (Close x.number) first (close_follows history x.number restored undo) (omega (arith, a, b, two, length_next history (Undo x.number restored))));
           owned = (
-            owns_end history (Undo x.number restored) refl stands_still refl
+            owns_end history (Undo x.number restored) refl refl stands_still refl
                 (λ key changed. ap (λ (c : List Change). is_changed c key) (sym (ap prepared_batch stands_still)) ∙ sym (prior_changes history (batch_at history x.number) key) ∙ ap (λ (c : List Change). is_changed c key) (sym is) ∙ changed),
-            (owns_end grown (Close x.number) refl there refl (λ key changed. ap (λ (c : List Change). is_changed c key) (sym (ap prepared_batch there)) ∙ changed), tt),
+            (owns_end grown (Close x.number) refl refl there refl (λ key changed. ap (λ (c : List Change). is_changed c key) (sym (ap prepared_batch there)) ∙ changed), tt),
           );
         }

@@ -21,12 +21,12 @@ use Rattle.wp_core.proofs.HistoryLaws.{next_decides_prepare}
 use Rattle.wp_core.proofs.KeepsSeen.{shorter}
 use Rattle.wp_parts.specs.Log.{LogState}
 use Rattle.wp_shared.specs.Calls.{IsLoose, Continues}
-use Rattle.wp_shared.specs.Seats.{SharedState, SeatState}
+use Rattle.wp_shared.specs.Seats.{SharedState, SeatState, IsFree}
 use Rattle.wp_shared.proofs.Onward.{continues_none}
 use Rattle.wp_open_txns.specs.Calls.{without_transaction, Frees}
 use Rattle.wp_txn.specs.Recording.{OpensLog, Records, HadPrior, IsPriorSince}
 use Rattle.wp_open_txns.specs.Turns.{IsApartFrom}
-use Rattle.wp_open_txns.specs.Txn.{PreparedState, without_number, HasLocked, HasPrepared}
+use Rattle.wp_open_txns.specs.Txn.{PreparedState, HasLocked, HasPrepared}
 use Rattle.wp_txn.specs.Writes.{HasPut, RollsBack, AsksRollback}
 use Rattle.wp_txn.proofs.Ends.{put_and_freed, number_still, locked_until, stands_before}
 use Rattle.wp_txn.proofs.Goes.{chain}
@@ -163,7 +163,7 @@ asks_prior z old new x restored asked h grown is legal =
 
 -- it is as it was, behind what left the seat as it was
 pub prepared_since : {D : Type 0} (z : SharedState D) (old new : SeatState) (x : PreparedState) → Continues z old new old.knows.participant → HasPrepared old x → HasPrepared new x
-prepared_since z old new x begins = prepared_still old new (still z old new old.knows.participant refl refl begins) x
+prepared_since z old new x begins = prepared_still old new (still z old new old.knows.participant refl refl (λ event there. there) begins) x
 
 module _ {D : Type 0} (z : SharedState D) (old start mid : SeatState) (x : PreparedState) (restored : List Change) (begins : Continues z old start old.knows.participant) (h : HasPrepared start x)
     (facts : ℕ → List Fact) (n : ℕ) (r : Records z start (Undo x.number restored ∷ Close x.number ∷ []) facts (Ok n) mid) where
@@ -178,16 +178,21 @@ module _ {D : Type 0} (z : SharedState D) (old start mid : SeatState) (x : Prepa
   restored_is : restored ≡ prior before_it x.batch
   restored_is = (after_front before_it (Undo x.number restored) (Close x.number ∷ []) r.1.1.legal).restores_prior ∙ ap (prior before_it) (ap prepared_batch (stands_before z start mid x h before_it r.1.1.put.grown))
 
+  -- it had no pin
+  mid_free : IsFree z.table mid
+  mid_free = r.1.1.put.goes_on.free
+
   -- it has the transaction until the record is put
-  pub locked_still : HasLocked mid (without_number x)
-  locked_still = locked_until z start start mid mid x.name (Undo x.number restored ∷ Close x.number ∷ []) facts n (continues_none z start begins.free) r (without_number x) (prepared_locked start x h)
+  pub locked_still : HasLocked mid x.name x.batch x.locked
+  locked_still =
+      locked_until z start start mid mid mid x.name None (Undo x.number restored ∷ Close x.number ∷ []) facts n (continues_none z start begins.free) r (continues_none z mid mid_free) refl x.batch x.locked (prepared_locked start x h)
 
   pub rolled_back : (new : SeatState) → Frees z mid new x.name → (fits z.cells (record { number = x.number; decision = n }) ≡ true → IsIn (has_left x.number) new.knows.notes) → RollsBack z old x n new
   rolled_back new frees gone =
       let entries : List Entry = Undo x.number restored ∷ Close x.number ∷ [] in
       let Put : List Change → Type 0 = λ b. HasPut (IsApartFrom x.name) z old new old.knows.participant (without_transaction x.name old.knows.participant) before_it (Undo x.number b ∷ Close x.number ∷ []) in (
-        number_still z old start mid new x.name entries facts n begins r frees,
-        (before_it, subst Put restored_is (put_and_freed z old start mid new x.name entries facts n begins r frees)),
+        number_still z old start mid mid new x.name None entries facts n begins r (continues_none z mid mid_free) refl frees,
+        (before_it, subst Put restored_is (put_and_freed z old start mid mid new x.name None entries facts n begins r (continues_none z mid mid_free) refl frees)),
         gone,
         frees.freed,
       )

@@ -136,6 +136,7 @@ module _ {D : Type 0} (z : SharedState D) (old s : SeatState) (log : LogState) (
     there = subst (λ (n : ℕ). IsAt (place_at z n) s.knows took.world) same_by took.stands;
     held = subst (λ (d : WriteState). IsIn (writes d) s.knows.held) (sym took.is) (subst (IsIn (writes log.state)) (sym took.holds.held) (inl refl));
     participant = participant_then ∙ ap (λ (h : List Entry). record was { seen = h }) (sym is);
+    notes = λ fact loose there. noted_then fact there;
     made = made_then;
     joined = joined_then;
     history_is = ap (λ (d : WriteState). d.history) took.is ∙ sym is;

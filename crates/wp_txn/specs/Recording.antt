@@ -24,7 +24,7 @@ use Rattle.wp_open_txns.specs.declared.error.TxnError.{TxnError}
 use Rattle.wp_txn.specs.declared.recording.Noting.{Noting}
 use Rattle.wp_txn.specs.declared.recording.Noting.TheVariants as noting
 use Rattle.wp_open_txns.specs.declared.error.TxnError.TheVariants.{Memory, Busy, LogFault}
-use Rattle.wp_open_txns.specs.Calls.{Keeps, Finds, LocksWere}
+use Rattle.wp_open_txns.specs.Calls.{Keeps, Finds, LocksWere, LocksAre}
 use Rattle.wp_open_txns.specs.Turns.{IsNoDirect}
 use Rattle.wp_txn.specs.Writes.{HasPut, Refuses, SawNoMore, MayLeaveDevice, writing_direct}
 
@@ -116,4 +116,4 @@ HoldsDirect z old key (Err other) new = ⊥
 pub record EndsDirect {D : Type 0} (z : SharedState D) (old new : SeatState) (key : List ℕ) : Type 0 where
   pub goes_on : ContinuesWith IsNoDirect z old new (without_direct old.knows.participant)
   pub same : new.knows.participant ≡ without_direct old.knows.participant
-  pub freed : LocksWere z new (λ t. finite.get t.keys key ≡ None)
+  pub freed : LocksAre z new (λ t. finite.get t.keys key ≡ None)

@@ -1,20 +1,24 @@
 -- What the calls answer that make entries, and what they leave of the seat.
-use Rattle.std.specs.Prelude.{◌≡◌, ◌⊎◌, ℕ, ◌+◌, ◌<◌, ◌≤◌, Bool, true, false, List, [], ◌∷◌, ◌++◌, length, Some, None, Result, Ok, Err}
+use Rattle.std.specs.Prelude.{◌≡◌, ◌⊎◌, ℕ, ◌+◌, ◌-◌, ◌<◌, ◌≤◌, Bool, true, false, List, [], ◌∷◌, ◌++◌, length, take, Some, None, Result, Ok, Err}
 use Rattle.std.specs.FinMap as finite
 use Rattle.wp_model.specs.declared.change.Change.{Change}
 use Rattle.wp_model.specs.declared.entry.Entry.{Entry}
 use Rattle.wp_model.specs.declared.entry.Entry.TheVariants.{Write, Prepare, Commit, Undo, Close}
 use Rattle.wp_model.specs.declared.holder.Holder.TheVariants.{Client}
 use Rattle.wp_model.specs.Batch.{key_of}
+use Rattle.wp_model.specs.Changed.{IsUnchanged}
+use Rattle.wp_model.specs.History.{batch_at, entry_at, is_changed, is_prepare, is_undecided, value_at}
 use Rattle.wp_model.specs.Legal.{IsLegal, prior}
 use Rattle.wp_judge.specs.Words.{fits}
 use Rattle.wp_core.specs.Sound.Actors.{StartsWith}
 use Rattle.wp_core.specs.States.{WriteState}
 use Rattle.wp_core.specs.Lists.{IsIn}
-use Rattle.wp_core.specs.Views.{Fact, has_left, locked, log_failed, stopped, based_at}
+use Rattle.wp_core.specs.Reading.{Registration}
+use Rattle.wp_core.specs.Views.{Fact, has_left, locked, log_failed, stopped, based_at, unchanged}
 use Rattle.wp_core.specs.World.{Participant}
 use Rattle.wp_parts.specs.Log.{LogState, IsLog}
 use Rattle.wp_parts.specs.Parts.{log_first}
+use Rattle.wp_read.specs.Registers.{unregistering}
 use Rattle.wp_records.specs.Writing.{FoundLog}
 use Rattle.wp_records.specs.Records.{numbers_behind, IsAboutNone, failing, FailsAppend, IsUncalled}
 use Rattle.wp_shared.specs.Calls.{IsLoose, ContinuesWith, Continues, with_events}
@@ -23,9 +27,9 @@ use Rattle.wp_shared.specs.Limits.{limit_at}
 use Rattle.wp_shared.specs.Seats.{SharedState, SeatState}
 use Rattle.wp_open_txns.specs.declared.error.TxnError.{TxnError}
 use Rattle.wp_open_txns.specs.declared.error.TxnError.TheVariants.{Memory, Busy, NumbersFull, LogFault, Stopped}
-use Rattle.wp_open_txns.specs.Calls.{Keeps, Finds, LocksWere, IsFreeName, without_transaction}
+use Rattle.wp_open_txns.specs.Calls.{Keeps, Finds, LocksWere, LocksAre, IsFreeName, without_transaction}
 use Rattle.wp_open_txns.specs.Turns.{IsApartFrom}
-use Rattle.wp_open_txns.specs.Txn.{OpenState, PreparedState, HasOpen, HasPrepared}
+use Rattle.wp_open_txns.specs.Txn.{OpenState, PreparedState, has_key, HasOpen, HasPrepared}
 
 -- ---- any entries
 
@@ -121,7 +125,7 @@ writing_direct key p = record (wrote_direct key p) { direct = Some key }
 
 -- nobody held the key as the call found it, and nobody holds it as it left it
 abbrev pub KeyIsFree : {D : Type 0} → SharedState D → SeatState → SeatState → List ℕ → Type 0
-KeyIsFree z old new key = LocksWere z old (λ t. finite.get t.keys key ≡ None) × LocksWere z new (λ t. finite.get t.keys key ≡ None)
+KeyIsFree z old new key = LocksWere z old (λ t. finite.get t.keys key ≡ None) × LocksAre z new (λ t. finite.get t.keys key ≡ None)
 
 abbrev pub WritesDirect : {D : Type 0} → SharedState D → SeatState → Change → Result ℕ TxnError → SeatState → Type 0
 WritesDirect z old change (Ok n) new =
@@ -136,23 +140,53 @@ WritesDirect z old change (Err why) new =
 
 -- ---- a transaction
 
+-- In this history each key of the transaction is unchanged since its pin, and each is since the numbers since which the seat had noted it.
+pub record AreUnchanged (s : SeatState) (txn : OpenState) (history : List Entry) : Type 0 where
+  pub noted : (key : List ℕ) (n : ℕ) → IsIn (unchanged txn.name key n) s.knows.notes → IsUnchanged history key n
+  pub pinned : (r : Registration) → txn.pin ≡ Some r → (key : List ℕ) → has_key txn.batch txn.locked key ≡ true → IsUnchanged history key r.number
+
+-- It is prepared behind a history in which its keys are unchanged. It has no pin any more.
 abbrev pub Prepares : {D : Type 0} → SharedState D → SeatState → OpenState → PreparedState → ℕ → SeatState → Type 0
 Prepares z old txn prepared n new =
-    (n ≡ length new.knows.participant.seen) × (prepared ≡ record { name = txn.name; number = n; batch = txn.batch }) × HasPrepared new prepared
-    × HasPutThese IsLoose z old new old.knows.participant old.knows.participant (Prepare txn.name txn.batch ∷ [])
+    (n ≡ length new.knows.participant.seen) × (prepared ≡ record { name = txn.name; number = n; batch = txn.batch; locked = txn.locked }) × HasPrepared new prepared
+    × ((history : List Entry)
+    × HasPut IsLoose z old new old.knows.participant (unregistering txn.pin old.knows.participant) history (Prepare txn.name txn.batch ∷ [])
+    × AreUnchanged old txn history)
 
--- These entries end the transaction of that name, which the seat has no more. Its name and its keys are free again.
-abbrev pub Ends : {D : Type 0} → SharedState D → SeatState → List ℕ → List Entry → ℕ → SeatState → Type 0
-Ends z old name entries n new =
-    (n ≡ length new.knows.participant.seen) × HasPutThese (IsApartFrom name) z old new old.knows.participant (without_transaction name old.knows.participant) entries
-    × LocksWere z new (IsFreeName name)
+-- These entries, behind a history of which this is so, end the transaction of that name, which the seat has no more: it is this participant
+-- since. Its name and its keys are free again.
+abbrev pub Ends : {D : Type 0} → SharedState D → SeatState → List ℕ → Participant → List Entry → (List Entry → Type 0) → ℕ → SeatState → Type 0
+Ends z old name after entries So n new =
+    (n ≡ length new.knows.participant.seen) × ((history : List Entry) × HasPut (IsApartFrom name) z old new old.knows.participant after history entries × So history)
+    × LocksAre z new (IsFreeName name)
 
+-- an open one ends behind a history in which its keys are unchanged, and its pin goes with it
 abbrev pub CommitsNow : {D : Type 0} → SharedState D → SeatState → OpenState → ℕ → SeatState → Type 0
-CommitsNow z old txn n new = Ends z old txn.name (Write txn.batch ∷ []) n new
+CommitsNow z old txn n new =
+    Ends z old txn.name (without_transaction txn.name (unregistering txn.pin old.knows.participant)) (Write txn.batch ∷ []) (AreUnchanged old txn) n new
 
--- ... and where the pair fits a word it noted that its number left the prepared heap and the delayed set, for good
+-- the keys of a prepared transaction are unchanged since its prepare
+abbrev pub StayUnchanged : PreparedState → List Entry → Type 0
+StayUnchanged txn history = (key : List ℕ) → has_key txn.batch txn.locked key ≡ true → IsUnchanged history key txn.number
+
+-- A prepared one ends so too. Where the pair fits a word the seat noted that the number left the prepared heap and the delayed set, for
+-- good.
 abbrev pub Commits : {D : Type 0} → SharedState D → SeatState → PreparedState → ℕ → SeatState → Type 0
-Commits z old txn n new = Ends z old txn.name (Commit txn.number ∷ []) n new × (fits z.cells (record { number = txn.number; decision = n }) ≡ true → IsIn (has_left txn.number) new.knows.notes)
+Commits z old txn n new =
+    Ends z old txn.name (without_transaction txn.name old.knows.participant) (Commit txn.number ∷ []) (StayUnchanged txn) n new
+    × (fits z.cells (record { number = txn.number; decision = n }) ≡ true → IsIn (has_left txn.number) new.knows.notes)
+
+-- The key is unchanged since this number, as `CommitsNow` says of the history before its entry, and `Prepares` of that before its own. Or
+-- there is a prepare in between, and the key is unchanged since that too, as `Commits` says, or is a key of its batch and it is undecided.
+abbrev pub IsUnchangedThrough : List Entry → List ℕ → ℕ → Type 0
+IsUnchangedThrough history key n =
+    IsUnchanged history key n
+    ⊎ ((p : ℕ) × (is_prepare (entry_at history p) ≡ true) × IsUnchanged (take (p - 1) history) key n
+    × (IsUnchanged history key p ⊎ ((is_undecided history p ≡ true) × (is_changed (batch_at history p) key ≡ true))))
+
+-- since this number and each later one the key is unchanged, and has the value that it had there
+abbrev pub KeepsValue : List Entry → List ℕ → ℕ → Type 0
+KeepsValue history key n = (m : ℕ) → n ≤ m → m ≤ length history → IsUnchanged history key m × (value_at history key m ≡ value_at history key n)
 
 -- What the keys had in the history that it was put behind, and then the end of the prepare. The name and the keys are free again.
 abbrev pub RollsBack : {D : Type 0} → SharedState D → SeatState → PreparedState → ℕ → SeatState → Type 0
@@ -161,7 +195,7 @@ RollsBack z old txn n new =
     × ((history : List Entry)
     × HasPut (IsApartFrom txn.name) z old new old.knows.participant (without_transaction txn.name old.knows.participant) history (Undo txn.number (prior history txn.batch) ∷ Close txn.number ∷ []))
     × (fits z.cells (record { number = txn.number; decision = n }) ≡ true → IsIn (has_left txn.number) new.knows.notes)
-    × LocksWere z new (IsFreeName txn.name)
+    × LocksAre z new (IsFreeName txn.name)
 
 -- it is refused, and the transaction is as it was
 abbrev pub RefusesOpen : {D : Type 0} → SharedState D → SeatState → OpenState → Entry → OpenState → TxnError → SeatState → Type 0

@@ -7,7 +7,7 @@ ghost use Rattle.wp_core.specs.Lists.{IsIn};
 ghost use Rattle.wp_core.specs.Views.{has_left, unprepared};
 ghost use Rattle.wp_shared.specs.Seats.{IsFree, participant_of, seen_by};
 ghost use Rattle.wp_open_txns.specs.Calls.{Frees};
-ghost use Rattle.wp_open_txns.specs.Txn.{HasLocked, HasPrepared, without_number};
+ghost use Rattle.wp_open_txns.specs.Txn.{HasLocked, HasPrepared};
 ghost use Rattle.wp_txn.specs.Writes.{RefusesBeforeLog, Commits, AsksCommit, RefusesPrepared};
 
 use crate::recording::{Noting, record};
@@ -15,7 +15,7 @@ use std::alloc::Global;
 use std::sync::Wait;
 use wp_judge::fits;
 use wp_model::Seq;
-use wp_open_txns::{OpenTxn, PreparedTxn, Refused, TxnError, free};
+use wp_open_txns::{PreparedTxn, Refused, TxnError, free};
 use wp_outside::Disk;
 use wp_records::{Record, forget_prepared};
 use wp_shared::{Seat, Shared};
@@ -30,7 +30,7 @@ pub(crate) fn end<D: Disk + Drop, R: Wait>(
     decision: Seq,
 )
     requires free { IsFree store.now.table seat.old }
-    requires has { HasLocked seat.old (without_number txn) }
+    requires has { HasLocked seat.old txn.name txn.batch txn.locked }
     requires noted { IsIn (unprepared txn.name) seat.old.knows.notes }
     requires decided { (decision_of (seen_by seat.old) txn.number ≡ Some decision) × (txn.number ≤ decision) × (decision < seq_end) }
     ensures frees { Frees store.now seat.old seat.new txn.name }
@@ -40,8 +40,9 @@ pub(crate) fn end<D: Disk + Drop, R: Wait>(
         name,
         number,
         batch,
+        locked,
     } = txn;
-    free(store, rt, seat, OpenTxn { name, batch });
+    free(store, rt, seat, name, batch, locked);
     if !fits(store.bits(), number, decision) {
         return;
     }

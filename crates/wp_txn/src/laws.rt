@@ -1,5 +1,6 @@
-//! What may be refused behind an append.
-ghost use Rattle.std.specs.Prelude.{◌≡◌, ◌⊎◌, List, Err};
+//! What may be refused behind an append, and what the keys of a transaction keep.
+ghost use Rattle.std.specs.Prelude.{◌≡◌, ◌⊎◌, ℕ, List, Err};
+ghost use Rattle.wp_model.specs.Legal.{IsLegal};
 ghost use Rattle.wp_model.specs.declared.entry.Entry.{Entry};
 ghost use Rattle.wp_core.specs.World.{Participant};
 ghost use Rattle.wp_parts.specs.Log.{LogState};
@@ -10,7 +11,7 @@ ghost use Rattle.wp_shared.specs.Devices.{CalledNoDevice};
 ghost use Rattle.wp_shared.specs.Seats.{SharedState, SeatState};
 ghost use Rattle.wp_open_txns.specs.declared.error.TxnError.{TxnError};
 ghost use Rattle.wp_open_txns.specs.declared.error.TxnError.TheVariants.{LogFault};
-ghost use Rattle.wp_txn.specs.Writes.{FailedOnce, LeavesDevice, RefusesBeforeLog};
+ghost use Rattle.wp_txn.specs.Writes.{FailedOnce, LeavesDevice, RefusesBeforeLog, IsUnchangedThrough, KeepsValue};
 
 /// From the append of a record to the reply nothing is refused but by the log's device.
 ///
@@ -25,4 +26,9 @@ pub fn behind_an_append_only_the_device_refuses<D>()
         → IsUncalled log left ⊎ ((why ≡ write_error.LogFault) × FailsAppend log entries left) }
     ensures appended { (z : SharedState D) (found : Participant) (old new : SeatState) (why : TxnError) → (new.knows.participant.own ≡ old.knows.participant.own → ⊥)
         → RefusesBeforeLog z found old why new → ⊥ }
+{}
+
+/// From the pin of a transaction to its own end none of its keys is changed, and each keeps the value that it had at the pin.
+pub fn validated_keys_keep_their_values()
+    ensures { (history : List Entry) (key : List ℕ) (n : ℕ) → IsLegal history → IsUnchangedThrough history key n → KeepsValue history key n }
 {}

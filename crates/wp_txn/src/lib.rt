@@ -27,10 +27,10 @@ mod undoing;
 
 pub use deciding::commit;
 pub use direct::write;
-pub use laws::behind_an_append_only_the_device_refuses;
+pub use laws::{behind_an_append_only_the_device_refuses, validated_keys_keep_their_values};
 pub use preparing::{commit_now, prepare};
 pub use undoing::rollback;
 pub use wp_open_txns::{
-    OpenTxn, PreparedTxn, Refused, TxnError, abandon, begin, hear, leave, stage, take_prepared,
-    tell,
+    Locked, OpenTxn, PreparedTxn, Refused, TxnError, abandon, begin, hear, leave, lock, pin, stage,
+    take_prepared, tell,
 };

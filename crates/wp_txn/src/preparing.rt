@@ -1,5 +1,5 @@
 //! An open transaction is prepared, or committed at once.
-ghost use Rattle.std.specs.Prelude.{◌≡◌, IfOk, IfErr};
+ghost use Rattle.std.specs.Prelude.{IfOk, IfErr};
 ghost use Rattle.wp_shared.specs.Seats.{IsFree, participant_of};
 ghost use Rattle.wp_open_txns.specs.Txn.{HasOpen};
 ghost use Rattle.wp_model.specs.declared.entry.Entry.TheVariants.{Write, Prepare};
@@ -9,13 +9,13 @@ use crate::recording::{Noting, record, shows_batch};
 use std::alloc::Global;
 use std::sync::Wait;
 use wp_model::Seq;
-use wp_open_txns::{OpenTxn, PreparedTxn, Refused, TxnError, free};
+use wp_open_txns::{OpenTxn, PreparedTxn, Refused, TxnError, free, unpin};
 use wp_outside::Disk;
 use wp_records::Record;
 use wp_shared::{Seat, Shared};
 
-/// Prepares the transaction: its changes go to the log and into memory, and are not committed. The answer is the number of its
-/// prepare.
+/// Prepares the transaction: its changes go to the log and into memory, and are not committed. Its keys stay held, and its pin is
+/// released. The answer is the number of its prepare.
 pub fn prepare<D: Disk + Drop, R: Wait>(
     store: &Shared<D>,
     rt: &R,
@@ -38,11 +38,18 @@ pub fn prepare<D: Disk + Drop, R: Wait>(
     };
     match record(store, rt, seat, prepare, Noting::Undecided(&txn.name)) {
         Ok(number) => {
-            let OpenTxn { name, batch } = txn;
+            let OpenTxn {
+                name,
+                batch,
+                locked,
+                pin,
+            } = txn;
+            unpin(store, rt, seat, pin);
             let prepared = PreparedTxn {
                 name,
                 number,
                 batch,
+                locked,
             };
             Ok((prepared, number))
         }
@@ -50,7 +57,7 @@ pub fn prepare<D: Disk + Drop, R: Wait>(
     }
 }
 
-/// Commits a transaction that was not prepared: its changes are one entry. The answer is its number.
+/// Commits a transaction that was not prepared: its changes are one entry. Its pin is released. The answer is the entry's number.
 pub fn commit_now<D: Disk + Drop, R: Wait>(
     store: &Shared<D>,
     rt: &R,
@@ -73,7 +80,14 @@ pub fn commit_now<D: Disk + Drop, R: Wait>(
     };
     match record(store, rt, seat, write, Noting::Nothing) {
         Ok(number) => {
-            free(store, rt, seat, txn);
+            let OpenTxn {
+                name,
+                batch,
+                locked,
+                pin,
+            } = txn;
+            unpin(store, rt, seat, pin);
+            free(store, rt, seat, name, batch, locked);
             Ok(number)
         }
         Err(why) => Err(Refused { txn, why }),

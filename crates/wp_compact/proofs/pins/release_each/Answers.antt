@@ -18,7 +18,7 @@ release-requires-clause-registered g c =
 pub loop-snapshot-preserved : goal.loop-snapshot-preserved
 loop-snapshot-preserved g c front is =
     let z = c.args.store.now in let s = c.args.seat.now in let t = c.loop-snapshot.seat in let rest = c.pop.new.self.items in
-    released_last z s t c.release.new.seat (front ++ rest) c.in-Some.snapshot s.knows.participant (before_last z s t s.knows.participant front rest c.loop-snapshot.live.items c.in-Some.snapshot c.in-Some.ensures.items (c.loop-snapshot.invariant front is)) c.release.ensures
+    released_last z s t c.release.new.seat (front ++ rest) c.in-Some.snapshot s.knows.participant (before_last z s t s.knows.participant front rest c.loop-snapshot.live.items c.in-Some.snapshot c.in-Some.ensures.items (c.loop-snapshot.invariant front is)) (let k = c.release.ensures in (k.0, k.1, k.2, k.3, k.4))
 
 pub returns : goal.returns
 returns g c front is =

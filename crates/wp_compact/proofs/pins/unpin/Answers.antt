@@ -21,4 +21,4 @@ release-requires-clause-registered g c =
 pub returns : goal.returns
 returns g c front is =
     released_last c.args.store.now c.args.seat.now c.release_each.new.seat c.release.new.seat front c.args.pinned.floor c.args.seat.now.knows.participant
-    (c.release_each.ensures (front ++ c.args.pinned.floor ∷ []) (is ∙ sym (append_assoc front (c.args.pinned.floor ∷ []) c.args.pinned.live.items))) c.release.ensures
+    (c.release_each.ensures (front ++ c.args.pinned.floor ∷ []) (is ∙ sym (append_assoc front (c.args.pinned.floor ∷ []) c.args.pinned.live.items))) (let k = c.release.ensures in (k.0, k.1, k.2, k.3, k.4))

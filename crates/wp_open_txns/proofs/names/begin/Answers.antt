@@ -1,5 +1,5 @@
 use Rattle.std.proofs.Common.{◌≡◌, List, [], sym, ap, subst, ◌∙◌, None, Err}
-use Rattle.std.specs.Prelude.{Result}
+use Rattle.std.specs.Prelude.{ℕ, Result}
 use Rattle.std.specs.FinMap as finite
 use Rattle.std.proofs.lemmas.Result.{err_from_is_err_and}
 use Rattle.wp_model.specs.declared.change.Change.{Change}
@@ -25,8 +25,8 @@ pub returns : goal.returns
 returns g c =
     let z = c.args.store.now in let old = c.args.seat.now in let t = c.deref_mut.result.now in let k = (lent_as c.deref_mut.ensures.value c.take_turn-tables.ensures.taken) in let claimed = (c.in_ok-outcome.ensures {u = tt}).answered in
     let b = begun z old t _ k c.args.name _ c.give_turn.new.seat claimed.1 (c.give_turn.ensures [] [] c.claim-outcome.ensures.holds) in
-    let begun_with : List Change → OpenState = λ batch. record { name = c.args.name; batch = batch } in
-    let is = ap begun_with c.new.ensures in
+    let begun_with : List Change → List (List ℕ) → OpenState = λ batch locked. record { name = c.args.name; batch = batch; locked = locked; pin = None } in
+    let is = ap (λ (batch : List Change). begun_with batch c.new-2.result.items) c.new.ensures ∙ ap (begun_with []) c.new-2.ensures.items in
     (is, subst (HasOpen c.give_turn.new.seat) (sym is) b.0, b.1, not_live z old _ t c.args.name k claimed.2, locks_found z old _ t (λ l. finite.get l.names c.args.name ≡ None) k claimed.2)
 
 pub returns-in_err-claimed : goal.returns-in_err-claimed

@@ -1,11 +1,13 @@
-use Rattle.std.proofs.Common.{◌≡◌, [], ◌∷◌, ◌++◌, sym, subst}
+use Rattle.std.proofs.Common.{◌≡◌, [], ◌∷◌, ◌++◌, Some, sym, subst, ap, ◌∙◌}
 use Rattle.wp_model.specs.Snapshots.{Snapshots, NoOldCommits}
 use Rattle.wp_core.specs.States.{snapshots}
 use Rattle.wp_core.specs.Views.{old_flag_stays}
+use Rattle.wp_core.specs.World.{Participant}
 use Rattle.wp_shared.specs.Seats.{SeatState}
 use Rattle.wp_shared.specs.Turns.{HoldsTurn}
 use Rattle.wp_shared.proofs.Tables.{knows_to_give}
 use Rattle.wp_shared.proofs.Onward.{holds_on, holds_alone}
+use Rattle.wp_read.specs.Registers.{without_last}
 use Rattle.wp_read.proofs.Seated.{continues_one}
 use Rattle.wp_read.proofs.registering.release.Goals as goal
 
@@ -22,10 +24,14 @@ give_turn-requires-clause-holds g c = ([], [], holds_on c.release_in.ensures.4.h
 
 pub returns : goal.returns
 returns g c =
-    let k = c.release_in.ensures in let first = c.take_turn-snaps.ensures.taken in let in_step = c.settle_old_flag.ensures.seat in (
+    let k = c.release_in.ensures in let first = c.take_turn-snaps.ensures.taken in let in_step = c.settle_old_flag.ensures.seat in let r = c.args.snapshot in
+    let gave = c.give_turn.ensures [] [] (holds_on k.4.holds in_step) in
+    let person : SeatState → Participant = λ s. s.knows.participant in (
       k.0,
       k.1,
-      subst (λ (s : SeatState). s.knows.participant.registered ≡ k.0 ++ c.args.snapshot ∷ k.1) first.goes.same k.2,
+      subst (λ (s : SeatState). s.knows.participant.registered ≡ k.0 ++ r ∷ k.1) first.goes.same k.2,
       k.3,
-      continues_one (k.0 ++ k.1) first k.4 in_step (c.give_turn.ensures [] [] (holds_on k.4.holds in_step)),
+      continues_one (k.0 ++ k.1) first k.4 in_step gave,
+      subst (λ (s : SeatState). k.0 ++ k.1 ≡ without_last (Some r) s.knows.participant.registered) first.goes.same k.5,
+      ap person gave.goes.same ∙ ap person in_step.same ∙ k.6 ∙ ap (λ (s : SeatState). record s.knows.participant { registered = k.0 ++ k.1 }) first.goes.same,
     )

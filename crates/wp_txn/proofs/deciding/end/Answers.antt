@@ -5,12 +5,12 @@ use Rattle.wp_core.specs.Lists.{IsIn}
 use Rattle.wp_core.specs.Views.{has_left}
 use Rattle.wp_core.specs.World.{Participant}
 use Rattle.wp_open_txns.specs.Calls.{Frees}
-use Rattle.wp_open_txns.specs.Txn.{PreparedState, without_number, HasLocked}
+use Rattle.wp_open_txns.specs.Txn.{PreparedState, HasLocked}
 use Rattle.wp_txn.proofs.Ends.{freed_then}
 use Rattle.wp_txn.proofs.deciding.end.Goals as goal
 
 pub free-requires-clause-has : goal.free-requires-clause-has
-free-requires-clause-has g c = subst (λ (txn : PreparedState). HasLocked c.args.seat.now (without_number txn)) (sym c.txn.view_is) c.requires.has
+free-requires-clause-has g c = subst (λ (txn : PreparedState). HasLocked c.args.seat.now txn.name txn.batch txn.locked) (sym c.txn.view_is) c.requires.has
 
 pub fits-requires-clause-ordered : goal.fits-requires-clause-ordered
 fits-requires-clause-ordered g c = subst (λ (txn : PreparedState). txn.number ≤ c.args.decision) (sym c.txn.view_is) c.requires.decided.1

@@ -36,7 +36,7 @@ returns-in_default-roll_back-clause-before_log g c =
 pub record-requires-clause-may : goal.record-requires-clause-may
 record-requires-clause-may g c =
     let z = c.args.store.now in let s = c.args.seat.now in let t = c.prior_now.new.seat in let b = c.in-Ok.prior in let k = c.in-Ok.ensures.prior in
-    let x : PreparedState = record { name = c.txn.inside.name; number = c.txn.inside.number; batch = c.txn.inside.batch } in
+    let x : PreparedState = record { name = c.txn.inside.name; number = c.txn.inside.number; batch = c.txn.inside.batch; locked = c.txn.inside.locked.items } in
     let was = subst (HasPrepared s) (sym c.txn.view_is) c.requires.prepared in
     let low : x.number ≤ k.0 = (let a = k.1 in let within = was.seen in omega (arith, a, within)) in
     records_rollback z t c.in-Ok-roll_back.undo x _ (prepared_since z s t x c.prior_now.ensures.seat was) b c.in-Ok-roll_back.ensures c.shows_batch.ensures c.held_keys_keep_their_values.ensures (k.0, low, k.2, k.3) (λ history end. end)
