@@ -16,6 +16,7 @@ class Alone:
     stopped: bool = False
     halted: bool = False
     board: dict = field(default_factory=dict)
+    locked: dict = field(default_factory=dict)  # of each prepare since the opening: the keys that its transaction had locked without a change
 
     def logs(self, client, command, answer):
         needed = len(asked(client, command))
@@ -31,11 +32,13 @@ class Alone:
         if refused is not None:
             return refused
         if kind in ("put", "del"):
-            holder = self.history.holder(command[1])
-            if holder is not None:
-                return ("busy txn", self.history.undecided()[holder])
+            refused = self.keeps_key(client, command[1])
+            if refused is not None:
+                return refused
             return ("held",) if client.state == "open" else self.logs(client, command, (kind, published + 1))
-        if kind == "get":
+        if kind == "lock" and not has(client.batch, command[1]):
+            return self.keeps_key(client, command[1]) or self.due_read(client, command)
+        if kind in ("get", "lock"):
             return self.due_read(client, command)
         if kind in ("begin", "take"):
             named = self.history.named(command[1]) is not None
@@ -50,7 +53,19 @@ class Alone:
             return ("heard", published) if command[1] in self.board else ("silent", command[1])
         if kind in ("flush", "compact", "renew"):
             return self.due_tables(client, kind)
-        return {"snap": ("snap", published), "tell": ("told", published), "free": ("freed",), "leave": ("left",)}[kind]
+        return {"snap": ("snap", published), "pin": ("pinned", published), "tell": ("told", published), "free": ("freed",), "leave": ("left",)}[kind]
+
+    def keeps_key(self, client, key):
+        """Why the client does not get the key: an undecided prepare holds it, or it was changed since the pin."""
+        if client.state == "open" and client.has_key(key):
+            return None
+        holder = self.history.holder(key)
+        if holder is None:
+            holder = next((p for p, keys in self.locked.items() if key in keys and p in self.history.undecided()), None)
+        if holder is not None:
+            return ("busy txn", self.history.undecided()[holder])
+        change = None if client.pin is None else self.history.conflict(key, client.pin, len(self.history))
+        return None if change is None else ("conflict", change)
 
     def due_read(self, client, command):
         own, key, at = client.own(self.history), command[1], len(self.history)
@@ -81,13 +96,15 @@ class Alone:
         return ("nothing",) if self.edit.base == published else ("renewed", published, len(self.history.undecided()))
 
     def kept(self, client):
-        numbers = [self.history.base, self.edit.base, *(n for _, n in client.snapshots)]
+        numbers = [self.history.base, self.edit.base, *(n for _, n in client.snapshots), *([] if client.pin is None else [client.pin])]
         return retained(self.history, self.edit.versions, numbers, len(self.history))
 
     def take(self, client, command, answer):
         """The client once it has the reply; the store is what the reply leaves of it."""
         form = answer[0]
         prepare = self.history.named(command[1]) if form == "took" else 0
+        if form == "prepare":
+            self.locked[answer[1]] = client.locked
         if form in ("flushed", "renewed"):
             more = tuple(self.history.versions(self.edit.flushed))
             base = len(self.history) if form == "renewed" else self.edit.base

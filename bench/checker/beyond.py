@@ -21,14 +21,14 @@ def check_flushes(history, found, answers):
 
 
 def check_locks(history, part):
-    """While the client's open transaction has a key, no entry of another changes it: from the first number on that the client was
-    answered since, up to the last one, or to the transaction's own entry."""
+    """While the client's open transaction has a key, no entry of another changes it, of transactions that never log an entry too: from
+    the first number on that the client was answered since, up to the last one, or to the transaction's own entry."""
     client, since = Client(), {}
     for line, (command, answer) in enumerate(zip(part.commands, part.answers), 1):
         n = fresh_number(command, answer, None)
         if client.state == "open" and n is not None:
             end = n - 1 if answer[0] in ("commit", "prepare") else n
-            for key, _ in client.batch:
+            for key in (*dict(client.batch), *client.locked):
                 change = history.change(key, since.setdefault(key, n), end)
                 need(change is None, "exclusive", f"client {part.client}, line {line}: entry {change} changes {key}, which transaction {client.name} has")
         client = after(client, command, answer, 0)

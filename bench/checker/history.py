@@ -118,6 +118,12 @@ class History:
         place = bisect_right(numbers, len(self) if n is None else n)
         return values[place - 1] if place else None
 
+    def conflict(self, key, after, n):
+        """The last of the entries after so many, among the first n, that changed what the store has under the key, or None."""
+        numbers, _ = self.values.get(key, ([], []))
+        place = bisect_right(numbers, n)
+        return numbers[place - 1] if place and numbers[place - 1] > after else None
+
     def prior(self, batch):
         return tuple((key, self.value(key)) for key, _ in batch)
 

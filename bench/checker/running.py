@@ -51,10 +51,10 @@ def fill(folder, entries):
         run(folder, script([lines]))
 
 
-def run(folder, text, words=(), **setting):
+def run(folder, text, words=(), program=WP, **setting):
     """The seconds that a run takes on the folder's store, and its transcript."""
     start = time.perf_counter()
-    ended = subprocess.run([WP, "run", *words], input=text.encode(), stdout=subprocess.PIPE, cwd=folder, env={**os.environ, **setting}, check=True)
+    ended = subprocess.run([program, "run", *words], input=text.encode(), stdout=subprocess.PIPE, cwd=folder, env={**os.environ, **setting}, check=True)
     return time.perf_counter() - start, ended.stdout.decode()
 
 

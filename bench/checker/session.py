@@ -6,7 +6,7 @@ from .history import MOST_KEYS, MOST_SNAPSHOTS, Edit, Entry, History, has, with_
 from .texts import Wrong, need
 
 # The replies that say up to which entry the client has seen the history.
-FRESH = {"put", "del", "get", "missing", "snap", "prepare", "commit", "rollback", "told", "heard", "unknown", "flushed", "compacted", "renewed"}
+FRESH = {"put", "del", "get", "missing", "snap", "pinned", "prepare", "commit", "rollback", "told", "heard", "unknown", "flushed", "compacted", "renewed"}
 
 
 # ---- clients
@@ -19,6 +19,8 @@ class Client:
     state: str = "idle"  # or open, or prepared
     name: str = ""  # of an open transaction
     batch: tuple = ()
+    locked: tuple = ()  # the keys that it locked without a change
+    pin: int | None = None
     prepare: int = 0  # of a prepared one
     snapshots: tuple = ()
 
@@ -28,6 +30,13 @@ class Client:
     def own(self, history):
         return history.batch(self.prepare) if self.state == "prepared" else self.batch
 
+    def has_key(self, key):
+        """Whether the open transaction has the key, changed or locked."""
+        return has(self.batch, key) or key in self.locked
+
+    def has_room(self, key):
+        return len(self.batch) + len(self.locked) < MOST_KEYS or self.has_key(key)
+
 
 def refusal(client, command):
     """What the client's own transaction and snapshots refuse, whatever the store has."""
@@ -35,11 +44,13 @@ def refusal(client, command):
     if kind in ("put", "del"):
         if client.state == "prepared":
             return ("state",)
-        if client.state == "open" and len(client.batch) >= MOST_KEYS and not has(client.batch, command[1]):
+        if client.state == "open" and not client.has_room(command[1]):
             return ("toomany",)
-    if kind in ("begin", "take") and client.state != "idle":
+    if kind in ("pin", "lock", "prepare") and client.state != "open":
         return ("state",)
-    if kind == "prepare" and client.state != "open":
+    if kind == "lock" and not client.has_room(command[1]):
+        return ("toomany",)
+    if kind in ("begin", "take") and client.state != "idle":
         return ("state",)
     if kind in ("commit", "rollback") and client.state == "idle":
         return ("state",)
@@ -70,19 +81,24 @@ def after(client, command, answer, prepare):
     """The client once it has the reply; `took` gives it the prepare."""
     form, kind = answer[0], command[0]
     if form == "held":
-        return replace(client, batch=with_change(client.batch, *change_of(command)))
+        locked = tuple(key for key in client.locked if key != command[1])
+        return replace(client, batch=with_change(client.batch, *change_of(command)), locked=locked)
+    if kind == "lock" and form in ("get", "missing") and command[1] not in client.locked:
+        return replace(client, locked=(*client.locked, command[1]))
+    if form == "pinned":
+        return replace(client, pin=answer[1])
     if form == "snap":
         return replace(client, snapshots=(*client.snapshots, (command[1], answer[1])))
     if form == "freed":
         return replace(client, snapshots=tuple(it for it in client.snapshots if it[0] != command[1]))
     if form == "begun":
-        return replace(client, state="open", name=command[1], batch=())
+        return replace(client, state="open", name=command[1])
     if form == "took":
-        return replace(client, state="prepared", prepare=prepare, name=command[1], batch=())
+        return replace(client, state="prepared", prepare=prepare, name=command[1])
     if form == "prepare":
-        return replace(client, state="prepared", prepare=answer[1], batch=())
+        return replace(client, state="prepared", prepare=answer[1], batch=(), locked=(), pin=None)
     if form in ("commit", "dropped", "rollback", "left") and kind in ("commit", "rollback", "leave"):
-        return replace(client, state="idle", name="", batch=(), prepare=0)
+        return replace(client, state="idle", name="", batch=(), locked=(), pin=None, prepare=0)
     return client
 
 
@@ -110,7 +126,7 @@ class Known:
     """What a client's commands and replies say to the others."""
 
     names: set = field(default_factory=set)  # for which it was answered `begun` or `took`
-    staged: set = field(default_factory=set)  # pairs: `held` for the key in a transaction that it began under the name
+    staged: set = field(default_factory=set)  # pairs of a name and a key that it came to lock for its open transaction of that name
     taken: set = field(default_factory=set)  # names of transactions that it took
     written: set = field(default_factory=set)  # keys that it came to write at once
     told: list = field(default_factory=list)  # pairs of a label and a number
@@ -125,7 +141,7 @@ def known_by(part):
             known.names.add(command[1])
         if form == "took":
             known.taken.add(command[1])
-        if form == "held" and client.state == "open" and command[0] in ("put", "del"):
+        if client.state == "open" and command[0] in ("put", "del", "lock") and form in ("held", "get", "missing", "conflict"):
             known.staged.add((client.name, command[1]))
         if command[0] in ("put", "del") and client.state == "idle" and form not in ("busy txn", "busy client"):
             known.written.add(command[1])
@@ -164,6 +180,7 @@ class Judge:
     tables: int  # how many tables the client knows of
     base: int  # that of its last `renewed`, at first that of the log as it was opened
     labels: frozenset = frozenset()  # for which it was answered `told` or `heard`
+    keys: tuple = ()  # of its open transaction, each with the first fresh number that the client was answered since, or None
     prepare: int = 0  # the prepare that `took` gives
 
     def fresh(self, n):
@@ -193,7 +210,11 @@ class Judge:
         if self.had_key(self.last, name, key):
             return True
         had = self.had_key(self.evidence.opened, name, key)
-        return any((name, key) in other.staged or name in other.taken and had for other in self.others())
+        if any((name, key) in other.staged or name in other.taken and had for other in self.others()):
+            return True
+        # What was locked for a transaction stays so, whoever prepared or took it.
+        held = any(p > self.evidence.opened for p in self.undecided(name)) or any(name in other.taken for other in self.others())
+        return held and any((name, key) in each.staged for each in self.evidence.all)
 
     def allow(self, command, answer):
         """Raises the rule that the reply breaks, where it breaks one."""
@@ -209,11 +230,13 @@ class Judge:
             self.log_is_closed(command, answer)
         elif form in ("halted", "fault tables", "nothing", "flushed", "compacted", "renewed"):
             self.tables_row(command, answer)
+        elif command[0] in ("put", "del", "lock") and form in ("busy txn", "busy client", "conflict"):
+            self.key_row(command, answer)
         elif command[0] in ("put", "del"):
             self.change_row(command, answer)
-        elif command[0] == "get":
+        elif command[0] in ("get", "lock"):
             self.get_row(command, answer)
-        elif command[0] in ("snap", "free", "tell", "hear"):
+        elif command[0] in ("snap", "pin", "free", "tell", "hear"):
             self.label_row(command, answer)
         else:
             self.txn_row(command, answer)
@@ -243,18 +266,29 @@ class Judge:
             need(answer[1] + needed > answer[2], "full", f"{needed} more would be within the limit")
 
     def change_row(self, command, answer):
-        form, key = answer[0], command[1]
+        form = answer[0]
         if form == command[0] and self.client.state == "idle":
             self.logged(answer[1], Entry("write", batch=(change_of(command),)))
         elif form == "held":
             need(self.client.state == "open", "row", "no transaction is open")
-        elif form == "busy txn":
+        else:
+            self.none(command, answer)
+
+    def key_row(self, command, answer):
+        """A key that the client does not get."""
+        form, key = answer[0], command[1]
+        need(not self.client.has_key(key), "own", f"the client's own transaction has {key}")
+        if form == "busy txn":
             need(self.busy_txn(answer[1], key), "busy", f"no transaction {answer[1]} of another has {key}")
         elif form == "busy client":
             other = self.evidence.others.get(answer[1])
             need(other and key in other.written, "busy", f"no other client {answer[1]} writes {key} at once")
         else:
-            self.none(command, answer)
+            history, pin, n = self.evidence.history, self.client.pin, answer[1]
+            need(pin is not None, "row", "the client has no pin")
+            need(history.conflict(key, pin, n) == n, "conflict", f"the entry {n} does not change {key} above the pin {pin}")
+            later = history.conflict(key, n, min(self.last, len(history)))
+            need(later is None, "conflict", f"the entry {later} changed {key} later, and the client has seen it")
 
     def get_row(self, command, answer):
         history, key, form = self.evidence.history, command[1], answer[0]
@@ -282,7 +316,7 @@ class Judge:
 
     def label_row(self, command, answer):
         kind, form = command[0], answer[0]
-        if form == {"snap": "snap", "tell": "told", "hear": "heard"}.get(kind):
+        if form == {"snap": "snap", "pin": "pinned", "tell": "told", "hear": "heard"}.get(kind):
             self.fresh(answer[1])
             if form == "heard":
                 told = [n for other in self.evidence.all for label, n in other.told if label == command[1]]
@@ -304,10 +338,20 @@ class Judge:
             self.take_row(command, answer)
         elif kind in ("prepare", "commit") and form == kind:
             self.logged(answer[1], asked(self.client, command)[0])
+            self.unchanged(answer[1] - 1)
         elif kind == "rollback" and form == "rollback" and self.client.state == "prepared":
             self.rolled_back(answer[1])
         else:
             self.none(command, answer)
+
+    def unchanged(self, n):
+        """Of the first n entries none changes a key of the open transaction since it came to it, nor since the pin."""
+        history = self.evidence.history
+        for key, since in self.keys if self.client.state == "open" else ():
+            change = None if since is None else history.conflict(key, since, n)
+            need(change is None, "kept", f"the entry {change} changes {key}, which transaction {self.client.name} has")
+            change = None if self.client.pin is None else history.conflict(key, self.client.pin, n)
+            need(change is None, "validated", f"the entry {change} changes {key} above the pin {self.client.pin}")
 
     def rolled_back(self, n):
         self.logged(n, Entry("close", number=self.client.prepare))
@@ -369,10 +413,19 @@ class Judge:
         """The judges of the replies behind this one: of `took` one for each prepare that it may have given."""
         given = self.undecided(command[1]) if answer[0] == "took" else {0}
         last = fresh_number(command, answer, self.last)
+        number = fresh_number(command, answer, None)
+        keys = tuple((key, number if since is None else since) for key, since in self.keys_with(command, answer))
         tables = tables_after(self.tables, answer)
         base = answer[1] if answer[0] == "renewed" else self.base
         labels = self.labels | {command[1]} if answer[0] in ("told", "heard") else self.labels
-        return [replace(self, client=after(self.client, command, answer, p), last=last, tables=tables, base=base, labels=labels) for p in sorted(given)]
+        return [replace(self, client=after(self.client, command, answer, p), last=last, tables=tables, base=base, labels=labels, keys=keys) for p in sorted(given)]
+
+    def keys_with(self, command, answer):
+        """The keys of its transaction once it has the reply."""
+        if answer[0] == "begun":
+            return ()
+        comes = answer[0] == "held" or command[0] == "lock" and answer[0] in ("get", "missing")
+        return (*self.keys, (command[1], None)) if comes and command[1] not in dict(self.keys) else self.keys
 
 
 def fresh_number(command, answer, last):

@@ -51,13 +51,14 @@ NUMBER = r"(0|[1-9][0-9]*)"
 WORD = r"([\x21-\x7e]+)"
 # The forms of a reply, each under a name: the pattern's groups follow the name.
 FORMS = [
-    *[(form, rf"{form} @{NUMBER}") for form in ("put", "del", "missing", "snap", "prepare", "commit", "rollback", "told", "heard")],
+    *[(form, rf"{form} @{NUMBER}") for form in ("put", "del", "missing", "snap", "pinned", "prepare", "commit", "rollback", "told", "heard")],
     *[(form, form) for form in ("held", "freed", "begun", "dropped", "left", "took", "state", "toomany", "nothing", "fault log", "fault tables", "missing own")],
     *[(form, rf"{form} {WORD}") for form in ("taken", "inuse", "silent", "busy txn", "busy client")],
     ("get own", rf"get {WORD} own"),
     ("get", rf"get {WORD} @{NUMBER}"),
     ("unknown", rf"unknown {WORD} @{NUMBER}"),
     ("unknown snapshot", rf"unknown {WORD}"),
+    ("conflict", rf"conflict {NUMBER}"),
     ("stopped", rf"stopped {NUMBER}"),
     ("halted", rf"halted {NUMBER}"),
     ("full", rf"full {NUMBER} {NUMBER}"),

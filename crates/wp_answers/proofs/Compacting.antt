@@ -2,9 +2,10 @@
 use Rattle.std.proofs.Common.{◌≡◌, inl, inr, ℕ, ◌≤◌, ◌<◌, true, List, [], ◌∷◌, ◌++◌, length, map, take, drop, Option, Some, None, refl, sym, subst, ap, ◌∙◌, arith, ◌==◌, eq-eqb}
 use Rattle.std.specs.Prelude.{slice_index_or, Result, Ok, Err, IfSome, min, nat_lt}
 use Rattle.std.specs.List.{Contains, list_any}
+use Rattle.std.specs.Option.{option_map}
 use Rattle.std.proofs.lemmas.Bool.{cases_Bool, eqb-true}
 use Rattle.std.proofs.lemmas.Bool.Decides.{nat_tests}
-use Rattle.std.proofs.lemmas.List.{take-append-drop, length-take-le}
+use Rattle.std.proofs.lemmas.List.{map-append, take-append-drop, length-take-le}
 use Rattle.std.proofs.lemmas.List.Folds.{list_any_at}
 use Rattle.wp_model.specs.declared.entry.Entry.{Entry}
 use Rattle.wp_model.specs.Flushed.{InstalledEdit}
@@ -12,7 +13,8 @@ use Rattle.wp_model.specs.Snapshots.{Snapshots, IsLive}
 use Rattle.wp_text.specs.declared.script.Command.TheVariants as command
 use Rattle.wp_text.specs.declared.reply.Reply.{Reply}
 use Rattle.wp_text.specs.declared.reply.Reply.TheVariants as reply
-use Rattle.wp_core.specs.Lists.{IsIn}
+use Rattle.wp_core.specs.Changes.{is_same_registration}
+use Rattle.wp_core.specs.Lists.{IsIn, one_if}
 use Rattle.wp_core.specs.Reading.{Registration}
 use Rattle.wp_core.specs.Sound.Actors.{StartsWith}
 use Rattle.wp_core.specs.Sound.Pasts.{tables_due}
@@ -31,22 +33,25 @@ use Rattle.wp_maint.specs.declared.error.MaintError.{MaintError}
 use Rattle.wp_maint.specs.declared.error.MaintError.TheVariants.{Memory, Nothing, TableFault, TablesStopped}
 use Rattle.wp_maint.specs.Calls.{found_by}
 use Rattle.wp_compact.specs.Calls.{FewTables, SeveralTables, HasPinned, IsCompactionOf, Compacts}
-use Rattle.wp_replies.specs.Client.{Client, numbers_of}
+use Rattle.wp_replies.specs.Client.{Client, number_if, numbers_of, pins_of, live_of}
 use Rattle.wp_replies.specs.Progress.{Progress}
 use Rattle.wp_replies.specs.Replies.{Evidence, OtherCompacted, IsKnown, IsCompactionCount, HasNothingToMerge, FailsCompaction}
 use Rattle.wp_replies.specs.Tables.{listed, after_compaction}
 use Rattle.wp_replies.proofs.Conditions.{compaction_count_more}
-use Rattle.wp_answers.proofs.Alone.Retained.{numbers_in}
+use Rattle.wp_answers.proofs.Alone.Retained.{numbers_in, of_number, times_in, among_counted}
 use Rattle.wp_answers.proofs.Alone.Compacting.{compacted_alone, nothing_compacted_alone, compact_failed_alone, compact_halted_alone}
 use Rattle.wp_client.specs.Agrees.{Agrees}
 use Rattle.wp_client.specs.Answers.{IsExplained, Answers, BreaksOff, IsAnswered}
 use Rattle.wp_client.specs.declared.holdings.HeldSnapshot.{HeldSnapshot}
-use Rattle.wp_client.specs.Holdings.{HoldingsState, txn_of, labelled, client_of, snapshot_of, times_registered, Holds}
+use Rattle.wp_client.specs.declared.holdings.HeldTxn.{HeldTxn}
+use Rattle.wp_client.specs.declared.holdings.HeldTxn.TheVariants as held
+use Rattle.wp_client.specs.Holdings.{HoldingsState, txn_of, labelled, client_of, snapshot_of, registration_if, pin_in, Holds}
 use Rattle.wp_answers.specs.Replies.{tables_refusal}
 use Rattle.wp_client.proofs.Growing.{of_two, taken_old}
-use Rattle.wp_client.proofs.Labelled.{is_registered, times_there}
+use Rattle.wp_client.proofs.Alone.Published.{total_both}
+use Rattle.wp_client.proofs.Labelled.{is_registered}
 use Rattle.wp_answers.proofs.Maintaining.{compaction_is, tables_answers, halted_answers, nothing_answers, failed_answers}
-use Rattle.wp_client.proofs.Staying.{holds_still, keeps_holds, broke_off}
+use Rattle.wp_client.proofs.Staying.{past_more, holds_still, keeps_holds, broke_off}
 
 -- ---- the client's snapshots are among those that were live
 
@@ -62,19 +67,27 @@ any_in (x ∷ xs) n there =
       | inr differs ↦ inr (any_in xs n (rw differs at there))
     ]
 
--- a number is that of one of them
-number_there : (xs : List HeldSnapshot) (n : ℕ) → list_any (λ m. m == n) (numbers_of (map labelled xs)) ≡ true → (front : List HeldSnapshot) × (s : HeldSnapshot) × (back : List HeldSnapshot) × (xs ≡ front ++ s ∷ back) × (s.snapshot.number ≡ n)
-number_there [] n there = absurd cc
-number_there (x ∷ xs) n there =
-    elim (cases_Bool (x.snapshot.number == n)) [
-      | inl same ↦ ([], x, xs, refl, eqb-true x.snapshot.number n same)
-      | inr differs ↦ let k = number_there xs n (rw differs at there) in (x ∷ k.0, k.1, k.2, ap (λ (ys : List HeldSnapshot). x ∷ ys) k.3, k.4)
-    ]
-
 -- the registrations have the numbers of the snapshots
 numbers_held : (xs : List HeldSnapshot) → numbers_in (map snapshot_of xs) ≡ numbers_of (map labelled xs)
 numbers_held [] = refl
 numbers_held (x ∷ xs) = ap (λ (ns : List ℕ). x.snapshot.number ∷ ns) (numbers_held xs)
+
+-- what is registered for the client: its snapshots, and its transaction's pin
+abbrev registered_for : HoldingsState → List Registration
+registered_for h = map snapshot_of h.snapshots ++ registration_if (pin_in h.txn)
+
+pin_numbered : (t : HeldTxn) → numbers_in (registration_if (pin_in t)) ≡ pins_of (txn_of t)
+pin_numbered held.Idle = refl
+pin_numbered (held.Open t) = by t.pin
+  where
+    by : (pin : Option Registration) → numbers_in (registration_if pin) ≡ number_if (option_map (λ (r : Registration). r.number) pin)
+    by None = refl
+    by (Some r) = refl
+pin_numbered (held.Prepared t) = refl
+
+numbers_for : (h : HoldingsState) → numbers_in (registered_for h) ≡ live_of (client_of h)
+numbers_for h = map-append (λ (r : Registration). r.number) (map snapshot_of h.snapshots) (registration_if (pin_in h.txn))
+    ∙ (ap (λ (ns : List ℕ). ns ++ numbers_in (registration_if (pin_in h.txn))) (numbers_held h.snapshots) ∙ ap (λ (ns : List ℕ). numbers_of (map labelled h.snapshots) ++ ns) (pin_numbered h.txn))
 
 -- what is counted of the first entries that were seen is counted of the history
 count_seen : (history seen : List Entry) (base at versions : ℕ) → StartsWith history seen → at ≤ length seen → base ≤ at → IsCompactionCount (take at seen) base at versions → IsCompactionCount history base at versions
@@ -113,7 +126,7 @@ module _ {D : Type 0} (z : SharedState D) (old new : SeatState) where
           remembered = tt;
           explained = of_two (IsExplained it.client client.txn command.Compact (Some (reply.Compacted done.at done.versions))) event made tt refl;
         })
-        refl (λ before low. bounds.1)
+        refl bounds.0 (λ before low. bounds.1)
         (λ first is_first before p e agrees. let low = p.last in let from = bounds.0 in let to = bounds.1 in let high = shorter e.history seen agrees.seen in (
           (omega (arith, low, from), omega (arith, to, high)),
           subst (λ (base : ℕ). IsCompactionCount e.history base done.at done.versions) (sym (agrees.base k.first k.is_first))
@@ -131,16 +144,19 @@ module _ {D : Type 0} (z : SharedState D) (old new : SeatState) where
     not_compacted_breaks Memory none (t, goes) = broke_off z old new client command.Compact goes
     not_compacted_breaks _ none f = absurd cc
 
+  just_these : (h : HoldingsState) → Holds z old h → (r : Registration) → times_in r it.registered ≡ times_in r (registered_for h)
+  just_these h has r = has.registered r ∙ sym (total_both (λ (s : Registration). one_if (is_same_registration r s)) (map snapshot_of h.snapshots) (registration_if (pin_in h.txn)))
+
   module _ (h : HoldingsState) (has : Holds z old h) where
     -- what the client has registered was live, and so it is among what was pinned
-    own_live : (floor : ℕ) (live : List ℕ) → HasPinned z old new floor live → (n : ℕ) → list_any (λ m. m == n) (numbers_of (client_of h).snapshots) ≡ true → list_any (λ m. m == n) live ≡ true
+    own_live : (floor : ℕ) (live : List ℕ) → HasPinned z old new floor live → (n : ℕ) → list_any (λ m. m == n) (live_of (client_of h)) ≡ true → list_any (λ m. m == n) live ≡ true
     own_live floor live k n there =
-        let place = number_there h.snapshots n there in let s : Registration = place.1.snapshot in let taken = k.pinned.taken in
+        let place = of_number n (registered_for h) (subst (IsIn n) (sym (numbers_for h)) (any_in (live_of (client_of h)) n there)) in let s : Registration = place.0 in let taken = k.pinned.taken in
         let registered : IsIn s it.registered = is_registered s it.registered
-        (let held = has.registered s in let are = ap (λ (xs : List HeldSnapshot). times_registered s (map snapshot_of xs)) place.3 in let some = times_there place.0 place.1 place.2 in omega (arith, held, are, some)) in
+        (let all = just_these h has s in let some = among_counted s (registered_for h) place.1 in omega (arith, all, some)) in
         let of_actor : IsIn s taken.actor.participant.registered = subst (λ (p : Participant). IsIn s p.registered) (sym taken.participant) registered in
         let was_live = (registered_live taken.world.writes.history taken.world.snapshots taken.world.actors old.by taken.actor s taken.there.there of_actor (at_sound (place_at z old.by) taken.actor taken.world taken.there).registrations).0 in
-        let before : IsLive k.pinned.before n = subst (IsLive k.pinned.before) place.4 (subst (λ (m : Snapshots). IsLive m s.number) taken.live was_live) in
+        let before : IsLive k.pinned.before n = subst (IsLive k.pinned.before) place.2 (subst (λ (m : Snapshots). IsLive m s.number) taken.live was_live) in
         subst (λ (ns : List ℕ). list_any (λ m. m == n) ns ≡ true) (sym k.live_is) (among_contains (pins.numbers_of k.others) n ((k.pinned.are_live.each n).1 before))
 
     fails_with : (t : Installed) (asked : Option InstalledEdit) (made : InstalledEdit) → SeveralTables t.last → (next : IsCompactionOf (HasPinned z old new) z new t.last made) → IfSome asked (λ edit. edit ≡ after_compaction (take next.floor seen) (listed next.live next.first.segment.base t.last) t.last)
@@ -166,7 +182,7 @@ module _ {D : Type 0} (z : SharedState D) (old new : SeatState) where
     fails_condition t (Some edit) made several next due = fails_with t (Some edit) edit several next next.edit_is
 
     pub compacted_answers : (done : Done) → Compacts z old (Ok done) new → IsAnswered z old new (client_of h) (client_of h) command.Compact (reply.Compacted done.at done.versions)
-    compacted_answers done k = (compacted_beside (client_of h) done k, λ world stands only first is_first store so. compacted_alone z first old new only store so (world, stands) is_first (txn_of h.txn) (map labelled h.snapshots) (map snapshot_of h.snapshots) (numbers_held h.snapshots) has.registered done k)
+    compacted_answers done k = (compacted_beside (client_of h) done k, λ world stands only first is_first store so locks. compacted_alone z first old new only store so (world, stands) is_first (txn_of h.txn) (map labelled h.snapshots) (registered_for h) (numbers_for h) (just_these h has) done k)
 
     pub not_compacted_answers : (why : MaintError) (r : Reply) → tables_refusal why ≡ Some r → Compacts z old (Err why) new → IsAnswered z old new (client_of h) (client_of h) command.Compact r
     not_compacted_answers Memory r is f = absurd cc
@@ -174,18 +190,18 @@ module _ {D : Type 0} (z : SharedState D) (old new : SeatState) where
       nothing_answers z old new command.Compact compaction_is (client_of h) t FewTables k
           (λ first is_first before p e agrees known. nothing_condition (client_of h) t (tables_due k.found.world.first_edit it.past) k.idle before
           (p.tables ∙ ap (λ (edit : InstalledEdit). tables_due edit it.past) (one_was_first content z.first first k.found.world.first_edit is_first k.found.there.first_edit)) e known.3),
-      λ world stands only first is_first store so. nothing_compacted_alone z first old new only store so (world, stands) is_first (txn_of h.txn) (map labelled h.snapshots) (map snapshot_of h.snapshots) (numbers_held h.snapshots) has.registered (t, k),
+      λ world stands only first is_first store so locks. nothing_compacted_alone z first old new only store so (world, stands) is_first (txn_of h.txn) (map labelled h.snapshots) (registered_for h) (numbers_for h) (just_these h has) (t, k),
     )
     not_compacted_answers TableFault r is (t, k) = subst (IsAnswered z old new (client_of h) (client_of h) command.Compact) (same_some reply.FaultTables r is) (
       failed_answers z old new command.Compact compaction_is (client_of h) refl t (SeveralTables t.last) (IsCompactionOf (HasPinned z old new) z new t.last) k (fails_condition t k.asked k.survives.0 k.busy k.next k.survives.1),
-      λ world stands only first is_first store so. compact_failed_alone z first old new only store so (world, stands) is_first (txn_of h.txn) (map labelled h.snapshots) (map snapshot_of h.snapshots) (numbers_held h.snapshots) has.registered (t, k),
+      λ world stands only first is_first store so locks. compact_failed_alone z first old new only store so (world, stands) is_first (txn_of h.txn) (map labelled h.snapshots) (registered_for h) (numbers_for h) (just_these h has) (t, k),
     )
     not_compacted_answers (TablesStopped flushed) r is (t, k) = subst (IsAnswered z old new (client_of h) (client_of h) command.Compact) (same_some (reply.Halted flushed) r is) (
       halted_answers z old new command.Compact compaction_is (client_of h) t flushed k,
-      λ world stands only first is_first store so. compact_halted_alone z first old new only store so (world, stands) is_first (txn_of h.txn) (map labelled h.snapshots) (map snapshot_of h.snapshots) (numbers_held h.snapshots) has.registered flushed (t, k),
+      λ world stands only first is_first store so locks. compact_halted_alone z first old new only store so (world, stands) is_first (txn_of h.txn) (map labelled h.snapshots) (registered_for h) (numbers_for h) (just_these h has) flushed (t, k),
     )
 
   -- what the client has then: what it had
   pub compaction_holds : (answer : Result Done MaintError) → Compacts z old answer new → (h : HoldingsState) → Holds z old h → Holds z new h
   compaction_holds (Err Memory) (t, goes) = keeps_holds z old new goes
-  compaction_holds _ (t, k) = holds_still z old new _ refl refl refl k.goes_on
+  compaction_holds _ (t, k) = holds_still z old new _ refl refl refl k.goes_on (past_more _ _)

@@ -25,7 +25,7 @@ use Rattle.wp_maint.specs.declared.error.MaintError.{MaintError}
 use Rattle.wp_maint.specs.declared.error.MaintError.TheVariants.{Memory, Nothing, TableFault, TablesStopped}
 use Rattle.wp_maint.specs.Calls.{found_by, IsStopped, HasNothing, HasFailed, HasFlushed, NoneInMemory, Flushes}
 use Rattle.wp_replies.specs.Client.{Client}
-use Rattle.wp_replies.specs.Kind.{number_in, is_renewal, last_after}
+use Rattle.wp_replies.specs.Kind.{number_in, fresh_in, is_renewal, last_after}
 use Rattle.wp_replies.specs.Progress.{Progress, heard_after}
 use Rattle.wp_replies.specs.Replies.{Evidence, WasFlushed, IsKnown, IsHaltedAt, HasNothingToFlush, FailsFlush, refusal_of, Condition, UnlessRefused}
 use Rattle.wp_replies.specs.After.{after_reply}
@@ -37,23 +37,26 @@ use Rattle.wp_client.specs.Holdings.{HoldingsState, Holds}
 use Rattle.wp_answers.specs.Replies.{tables_refusal}
 use Rattle.wp_client.proofs.Fitting.{Fits, else_answers}
 use Rattle.wp_client.proofs.Growing.{in_back, of_one, of_two, taken_old, seen_taken, last_still}
-use Rattle.wp_client.proofs.Staying.{holds_still, keeps_holds, broke_off}
+use Rattle.wp_client.proofs.Noting.{ComesNone, noted_still}
+use Rattle.wp_client.proofs.Staying.{past_more, holds_still, keeps_holds, broke_off}
 
 -- the command is no other than a flush, a compaction or a renewal, as far as the client is concerned
 pub record IsOfTables (c : Command) : Type 0 where
   pub free : (client : Client) → refusal_of client c ≡ None
   pub last : (before : ℕ) (r : Reply) → last_after before c r ≡ unwrap_or (number_in r) before
   pub labels : (before : List (List ℕ)) (r : Reply) → heard_after before c r ≡ before
+  pub comes : (r : Reply) → ComesNone c r
+  pub fresh : (r : Reply) → fresh_in c r ≡ number_in r
   pub halted : (e : Evidence) (before : Progress) (client : Client) (flushed : ℕ) → IsHaltedAt e flushed → Condition e before client 0 c (reply.Halted flushed)
 
 pub flush_is : IsOfTables command.Flush
-flush_is = record { free = λ client. refl; last = λ before r. refl; labels = λ before r. refl; halted = λ e before client flushed k. k }
+flush_is = record { free = λ client. refl; last = λ before r. refl; labels = λ before r. refl; comes = λ r before. refl; fresh = λ r. refl; halted = λ e before client flushed k. k }
 
 pub compaction_is : IsOfTables command.Compact
-compaction_is = record { free = λ client. refl; last = λ before r. refl; labels = λ before r. refl; halted = λ e before client flushed k. k }
+compaction_is = record { free = λ client. refl; last = λ before r. refl; labels = λ before r. refl; comes = λ r before. refl; fresh = λ r. refl; halted = λ e before client flushed k. k }
 
 pub renewal_is : IsOfTables command.Renew
-renewal_is = record { free = λ client. refl; last = λ before r. refl; labels = λ before r. refl; halted = λ e before client flushed k. k }
+renewal_is = record { free = λ client. refl; last = λ before r. refl; labels = λ before r. refl; comes = λ r before. refl; fresh = λ r. refl; halted = λ e before client flushed k. k }
 
 module _ {D : Type 0} (z : SharedState D) (old new : SeatState) where
   abbrev it : Participant
@@ -69,11 +72,12 @@ module _ {D : Type 0} (z : SharedState D) (old new : SeatState) where
   module _ (c : Command) (of : IsOfTables c) (client : Client) where
     -- the seat goes on as it was, but that it remembers these events
     pub tables_answers : (r : Reply) (events : List Event) → Continues z old new (with_events events it) → Fits c r [] events it.client client.txn → client ≡ after_reply 0 client c r
-        → ((before : ℕ) → before ≤ length seen → unwrap_or (number_in r) before ≤ length seen)
-        → ((first : InstalledEdit) → WasLast content z.first first → (before : Progress) → IsProgress first it before → (e : Evidence) → Agrees e z new.knows.participant → Condition e before client 0 c r)
+        → IfSome (number_in r) (λ n. length it.seen ≤ n) → ((before : ℕ) → before ≤ length seen → unwrap_or (number_in r) before ≤ length seen)
+        → ((first : InstalledEdit) → WasLast content z.first first → (before : Progress) → IsProgress first old client.txn before → (e : Evidence) → Agrees e z new.knows.participant → Condition e before client 0 c r)
         → Answers z old new client client c r
-    tables_answers r events goes fits is low condition =
+    tables_answers r events goes fits is later low condition =
         else_answers z old new _ (with_events events it) events client client c r 0 goes refl refl refl fits is
+        (noted_still z old new (with_events events it) goes client.txn c r (of.comes r) (subst (λ (o : Option ℕ). IfSome o (λ n. length it.seen ≤ n)) (sym (of.fresh r)) later))
         (λ before lower. subst (λ (n : ℕ). n ≤ length seen) (sym (of.last before r)) (low before lower))
         (λ first is_first before p e agrees. subst (λ (o : Option Reply). UnlessRefused o r (Condition e before client 0 c r)) (sym (of.free client)) (condition first is_first before p e agrees))
 
@@ -84,18 +88,18 @@ module _ {D : Type 0} (z : SharedState D) (old new : SeatState) where
         let same : event ≡ found_edit flushed t.last.segment.base t.last.tables (tables_due k.found.world.first_edit it.past) true = λ i. found_edit (sym k.flushed_is i) t.last.segment.base t.last.tables (tables_due k.found.world.first_edit it.past) (k.halted i) in
         tables_answers (reply.Halted flushed) (event ∷ []) k.goes_on
         (record { acknowledges = refl; tables = λ before. refl; labels = λ before. of.labels before (reply.Halted flushed); log_failed = refl; log_stopped = refl; tables_failed = refl; once = omega arith; remembered = (t.last.segment.base, t.last.tables, tables_due k.found.world.first_edit it.past, inl same); explained = of_one (IsExplained it.client client.txn c (Some (reply.Halted flushed))) event tt })
-        refl (λ before low. low)
+        refl tt (λ before low. low)
         (λ first is_first before p e agrees. let known = known_of (event ∷ []) k.goes_on e agrees event (inl refl) in
         of.halted e before client flushed (subst (IsHaltedAt e) (sym k.flushed_is) (known.2 k.halted)))
 
     -- there was nothing to do
     pub nothing_answers : (t : Installed) (Idle : InstalledEdit → Type 0) (k : HasNothing (Continues z old new) z old new t Idle)
-        → ((first : InstalledEdit) → WasLast content z.first first → (before : Progress) → IsProgress first it before → (e : Evidence) → Agrees e z new.knows.participant → Knows e (found_by z old new t k.found) → Condition e before client 0 c reply.Nothing)
+        → ((first : InstalledEdit) → WasLast content z.first first → (before : Progress) → IsProgress first old client.txn before → (e : Evidence) → Agrees e z new.knows.participant → Knows e (found_by z old new t k.found) → Condition e before client 0 c reply.Nothing)
         → Answers z old new client client c reply.Nothing
     nothing_answers t Idle k condition = let event : Event = found_by z old new t k.found in
         tables_answers reply.Nothing (event ∷ []) k.goes_on
         (record { acknowledges = refl; tables = λ before. refl; labels = λ before. of.labels before reply.Nothing; log_failed = refl; log_stopped = refl; tables_failed = refl; once = omega arith; remembered = tt; explained = of_one (IsExplained it.client client.txn c (Some reply.Nothing)) event tt })
-        refl (λ before low. low)
+        refl tt (λ before low. low)
         (λ first is_first before p e agrees. condition first is_first before p e agrees (known_of (event ∷ []) k.goes_on e agrees event (inl refl)))
 
     -- a device failed, and the log takes entries on
@@ -106,7 +110,7 @@ module _ {D : Type 0} (z : SharedState D) (old new : SeatState) where
         let event : Event = found_by z old new t k.found in let fault : Event = tables_failed t.last k.asked in
         tables_answers reply.FaultTables (event ∷ fault ∷ []) k.goes_on
         (record { acknowledges = refl; tables = λ before. refl; labels = λ before. of.labels before reply.FaultTables; log_failed = refl; log_stopped = ap one_if (sym other); tables_failed = refl; once = omega arith; remembered = tt; explained = of_two (IsExplained it.client client.txn c (Some reply.FaultTables)) event fault tt tt })
-        refl (λ before low. low)
+        refl tt (λ before low. low)
         (λ first is_first before p e agrees. let known = known_of (event ∷ fault ∷ []) k.goes_on e agrees fault (inr (inl refl)) in
         condition before p.last e agrees known.0 known.1)
 
@@ -141,11 +145,11 @@ module _ {D : Type 0} (z : SharedState D) (old new : SeatState) where
           remembered = (edit, sym k.at, inr (inl refl));
           explained = of_two (IsExplained it.client client.txn command.Flush (Some (reply.Flushed done.at done.versions))) event made tt (let at = k.at in grind (arith, nat_tests));
         })
-        refl (λ before low. let at = k.at in omega (arith, at))
-        (λ first is_first before p e agrees. flushed_condition t done k before (last_still first it new.knows.participant before k.goes_on.seen p) e agrees (known_of (event ∷ made ∷ []) k.goes_on e agrees event (inl refl)).0)
+        refl (let at = k.at in let more = shorter seen it.seen k.goes_on.seen in omega (arith, at, more)) (λ before low. let at = k.at in omega (arith, at))
+        (λ first is_first before p e agrees. flushed_condition t done k before (last_still first old client.txn new.knows.participant before k.goes_on.seen p) e agrees (known_of (event ∷ made ∷ []) k.goes_on e agrees event (inl refl)).0)
 
     pub flushed_answers : (done : Done) → Flushes z old (Ok done) new → IsAnswered z old new client client command.Flush (reply.Flushed done.at done.versions)
-    flushed_answers done k = (flushed_beside done k, λ world stands only first is_first store so. flushed_alone z first old new only store so (world, stands) is_first client done k)
+    flushed_answers done k = (flushed_beside done k, λ world stands only first is_first store so locks. flushed_alone z first old new only store so (world, stands) is_first client done k)
 
     nothing_condition : (t : Installed) → NoneInMemory seen t.last → (before : Progress) → before.last ≤ length seen → (e : Evidence) → Agrees e z new.knows.participant → IsKnown e (WasFlushed t.last.flushed) → HasNothingToFlush e before.last
     nothing_condition t none before low e agrees known = let high = shorter e.history seen agrees.seen in
@@ -165,16 +169,16 @@ module _ {D : Type 0} (z : SharedState D) (old new : SeatState) where
     pub not_flushed_answers : (why : MaintError) (r : Reply) → tables_refusal why ≡ Some r → Flushes z old (Err why) new → IsAnswered z old new client client command.Flush r
     not_flushed_answers Memory r is f = absurd cc
     not_flushed_answers Nothing r is (t, (whole, k)) = subst (IsAnswered z old new client client command.Flush) (same_some reply.Nothing r is) (
-      nothing_answers command.Flush flush_is client t (NoneInMemory seen) k (λ first is_first before p e agrees known. nothing_condition t k.idle before (last_still first it new.knows.participant before k.goes_on.seen p) e agrees known.0),
-      λ world stands only first is_first store so. nothing_flushed_alone z first old new only store so (world, stands) is_first client (t, (whole, k)),
+      nothing_answers command.Flush flush_is client t (NoneInMemory seen) k (λ first is_first before p e agrees known. nothing_condition t k.idle before (last_still first old client.txn new.knows.participant before k.goes_on.seen p) e agrees known.0),
+      λ world stands only first is_first store so locks. nothing_flushed_alone z first old new only store so (world, stands) is_first client (t, (whole, k)),
     )
     not_flushed_answers TableFault r is (t, (whole, k)) = subst (IsAnswered z old new client client command.Flush) (same_some reply.FaultTables r is) (
       failed_answers command.Flush flush_is client refl t (1 ≤ length (unflushed seen t.last)) (λ edit. edit ≡ after_flush seen t.last) k (fails_condition t k.asked k.busy k.next k.goes_on.seen),
-      λ world stands only first is_first store so. flush_failed_alone z first old new only store so (world, stands) is_first client (t, (whole, k)),
+      λ world stands only first is_first store so locks. flush_failed_alone z first old new only store so (world, stands) is_first client (t, (whole, k)),
     )
     not_flushed_answers (TablesStopped flushed) r is (t, k) = subst (IsAnswered z old new client client command.Flush) (same_some (reply.Halted flushed) r is) (
       halted_answers command.Flush flush_is client t flushed k,
-      λ world stands only first is_first store so. flush_halted_alone z first old new only store so (world, stands) is_first client flushed (t, k),
+      λ world stands only first is_first store so locks. flush_halted_alone z first old new only store so (world, stands) is_first client flushed (t, k),
     )
 
     pub not_flushed_breaks : (why : MaintError) → tables_refusal why ≡ None → Flushes z old (Err why) new → BreaksOff old new client command.Flush
@@ -183,8 +187,8 @@ module _ {D : Type 0} (z : SharedState D) (old new : SeatState) where
 
   -- what the client has then: what it had
   pub flush_holds : (answer : Result Done MaintError) → Flushes z old answer new → (h : HoldingsState) → Holds z old h → Holds z new h
-  flush_holds (Ok done) (t, k) = holds_still z old new _ refl refl refl k.goes_on
+  flush_holds (Ok done) (t, k) = holds_still z old new _ refl refl refl k.goes_on (past_more _ _)
   flush_holds (Err Memory) (t, goes) = keeps_holds z old new goes
-  flush_holds (Err Nothing) (t, (whole, k)) = holds_still z old new _ refl refl refl k.goes_on
-  flush_holds (Err TableFault) (t, (whole, k)) = holds_still z old new _ refl refl refl k.goes_on
-  flush_holds (Err (TablesStopped flushed)) (t, k) = holds_still z old new _ refl refl refl k.goes_on
+  flush_holds (Err Nothing) (t, (whole, k)) = holds_still z old new _ refl refl refl k.goes_on (past_more _ _)
+  flush_holds (Err TableFault) (t, (whole, k)) = holds_still z old new _ refl refl refl k.goes_on (past_more _ _)
+  flush_holds (Err (TablesStopped flushed)) (t, k) = holds_still z old new _ refl refl refl k.goes_on (past_more _ _)

@@ -1,7 +1,7 @@
 -- What a client is answered whose command the log does not take.
 use Rattle.std.proofs.Common.{◌≡◌, ⊎_elim, inl, inr, ℕ, ◌+◌, ◌≤◌, ◌==◌, Bool, true, false, if◌then◌else◌, eq-eqb, ne_eqb, List, [], ◌∷◌, ◌++◌, length, Option, Some, None, refl, sym, subst, ap, ◌∙◌, append_assoc, arith}
 use Rattle.std.proofs.lemmas.Bool.{cases_lt}
-use Rattle.std.specs.Prelude.{unwrap_or}
+use Rattle.std.specs.Prelude.{IfSome, unwrap_or}
 use Rattle.wp_model.specs.declared.entry.Entry.{Entry}
 use Rattle.wp_model.specs.Flushed.{InstalledEdit}
 use Rattle.wp_text.specs.declared.script.Command.{Command}
@@ -38,8 +38,9 @@ use Rattle.wp_client.specs.Replies.{refusal}
 use Rattle.wp_client.proofs.Alone.Published.{no_device_fault}
 use Rattle.wp_client.proofs.Fitting.{else_answers}
 use Rattle.wp_client.proofs.Growing.{InstallNothing, due_still, last_still}
+use Rattle.wp_client.proofs.Noting.{KeepsNoted, ComesNone, noted_still}
 use Rattle.wp_answers.proofs.Risen.{base_within, base_there, base_between}
-use Rattle.wp_client.proofs.Staying.{holds_still}
+use Rattle.wp_client.proofs.Staying.{KeepsPast, past_more, holds_still}
 
 -- the log does not take it: its numbers are full, it fails, or it failed before
 abbrev pub IsOfLog : Reply → Type 0
@@ -49,13 +50,14 @@ IsOfLog (reply.Stopped n) = Unit {0}
 IsOfLog other = ⊥
 
 -- The command asks the log for so many entries, and such, which the client's own state does not refuse. Its replies have nothing
--- of labels.
+-- of labels, and no key comes with one that the log refuses it by.
 pub record IsLogged (client : Client) (c : Command) (needs : ℕ) (Asks : List Entry → Type 0) : Type 0 where
   pub free : refusal_of client c ≡ None
   pub some : 1 ≤ needs
   pub needs_is : needed client.txn c ≡ needs
   pub asks : (entries : List Entry) → Asks entries → AsksFor client.txn c entries
   pub fresh : (r : Reply) → fresh_in c r ≡ number_in r
+  pub comes : (r : Reply) → IsOfLog r → ComesNone c r
   pub labels : (before : List (List ℕ)) (r : Reply) → heard_after before c r ≡ before
 
 -- these events have nothing of faults and edits, nor of what was found, and are explained by the command, unless it was taken by
@@ -105,13 +107,17 @@ module _ {D : Type 0} (z : SharedState D) (old new : SeatState) (client : Client
   it = old.knows.participant
 
   -- a fresh number that is the length of what was seen
-  fresh_number : (first : InstalledEdit) (before : Progress) (e : Evidence) (n : ℕ) (after : Participant) → Continues z old new after → n ≡ length new.knows.participant.seen → IsProgress first it before → Agrees e z new.knows.participant → IsFresh e.history before.last n
+  fresh_number : (first : InstalledEdit) (before : Progress) (e : Evidence) (n : ℕ) (after : Participant) → Continues z old new after → n ≡ length new.knows.participant.seen → IsProgress first old client.txn before → Agrees e z new.knows.participant → IsFresh e.history before.last n
   fresh_number first before e n after goes is k agrees =
-      let low = last_still first it new.knows.participant before goes.seen k in let high = shorter e.history new.knows.participant.seen agrees.seen in (omega (arith, is, low), omega (arith, is, high))
+      let low = last_still first old client.txn new.knows.participant before goes.seen k in let high = shorter e.history new.knows.participant.seen agrees.seen in (omega (arith, is, low), omega (arith, is, high))
 
   -- the reply of the log has no number, so the client knows of nothing later
   same_last : (r : Reply) → number_in r ≡ None → (before : ℕ) → before ≤ length new.knows.participant.seen → last_after before c r ≤ length new.knows.participant.seen
   same_last r none before low = let is : last_after before c r ≡ before = ap (λ (o : Option ℕ). unwrap_or o before) (logged.fresh r ∙ none) in omega (arith, is, low)
+
+  -- what is noted of the keys stays
+  still_noted : {after : Participant} (r : Reply) → IsOfLog r → number_in r ≡ None → Continues z old new after → KeepsNoted old new client.txn client.txn c r
+  still_noted {after} r of_log none goes = noted_still z old new after goes client.txn c r (logged.comes r of_log) (subst (λ (o : Option ℕ). IfSome o (λ n. length it.seen ≤ n)) (sym (logged.fresh r ∙ none)) tt)
 
   -- the row of the reply has the last word
   by_condition : (e : Evidence) (before : Progress) (r : Reply) → Condition e before client 0 c r → Allows e before client 0 c r
@@ -119,8 +125,8 @@ module _ {D : Type 0} (z : SharedState D) (old new : SeatState) (client : Client
 
   module _ (found after : Participant) (front : List Event) (begins : (event : Event) → IsIn event it.past → IsIn event found.past) (same_client : after.client ≡ it.client) (own : after.own ≡ it.own) (past : after.past ≡ it.past ++ front) (k : ComesBefore client c it.client front) where
     -- the past with one event more
-    past_more : (last : Event) → after.past ++ last ∷ [] ≡ it.past ++ (front ++ last ∷ [])
-    past_more last = ap (λ (es : List Event). es ++ last ∷ []) past ∙ append_assoc it.past front (last ∷ [])
+    past_with : (last : Event) → after.past ++ last ∷ [] ≡ it.past ++ (front ++ last ∷ [])
+    past_with last = ap (λ (es : List Event). es ++ last ∷ []) past ∙ append_assoc it.past front (last ∷ [])
 
     -- the base that the log was found with
     abbrev base_of : (published limit : ℕ) → Refuses z old new needs Asks found after (NumbersFull published limit) → ℕ
@@ -140,7 +146,7 @@ module _ {D : Type 0} (z : SharedState D) (old new : SeatState) (client : Client
               ap (limit_at z) is ∙ (limit_opened z first.segment.base was ∙ (ap (λ (l : Limits). l.opened) (sym agrees.limits) ∙ sym (ap (λ (b : Bool). if b then e.limits.opened else e.limits.renewed) same)))
         ]
 
-    is_limit : (first : InstalledEdit) → WasLast content z.first first → (before : Progress) → IsProgress first it before → (e : Evidence) (published limit : ℕ) → Refuses z old new needs Asks found after (NumbersFull published limit) → Agrees e z new.knows.participant → IsLimit e before published limit
+    is_limit : (first : InstalledEdit) → WasLast content z.first first → (before : Progress) → IsProgress first old client.txn before → (e : Evidence) (published limit : ℕ) → Refuses z old new needs Asks found after (NumbersFull published limit) → Agrees e z new.knows.participant → IsLimit e before published limit
     is_limit first is_first before p e published limit f agrees =
         let w = f.2.world in let base = base_of published limit f in
         let known = base_between first w f.2.there.reached (place_at z old.by).by f.2.actor f.2.there.there (one_was_first content z.first w.first_edit first f.2.there.first_edit is_first) before.base
@@ -152,7 +158,7 @@ module _ {D : Type 0} (z : SharedState D) (old new : SeatState) (client : Client
     full_answers : (published limit : ℕ) → Refuses z old new needs Asks found after (NumbersFull published limit) → Answers z old new client client c (reply.Full published limit)
     full_answers published limit f =
         let last : Event = based_at published (base_of published limit f) in
-        else_answers z old new _ (with_events (last ∷ []) after) (front ++ last ∷ []) client client c (reply.Full published limit) 0 f.4 same_client own (past_more last)
+        else_answers z old new _ (with_events (last ∷ []) after) (front ++ last ∷ []) client client c (reply.Full published limit) 0 f.4 same_client own (past_with last)
         (record {
           acknowledges = refl;
           tables = λ before. sym (quiet_more front last k.quiet (λ due. refl) before);
@@ -165,7 +171,7 @@ module _ {D : Type 0} (z : SharedState D) (old new : SeatState) (client : Client
           explained = λ event there. ⊎_elim (λ (t : IsIn event front). k.explained (reply.Full published limit) tt event t)
               (λ (same : last ≡ event). subst (IsExplained it.client client.txn c (Some (reply.Full published limit))) same tt) (in_either event last front there);
         })
-        refl (same_last (reply.Full published limit) refl)
+        refl (still_noted (reply.Full published limit) tt refl f.4) (same_last (reply.Full published limit) refl)
         (λ first is_first before p e agrees. by_condition e before (reply.Full published limit) (
           (let n = logged.needs_is in let some = logged.some in omega (arith, n, some)),
           fresh_number first before e published (with_events (last ∷ []) after) f.4 f.0 p agrees,
@@ -175,7 +181,7 @@ module _ {D : Type 0} (z : SharedState D) (old new : SeatState) (client : Client
 
     stopped_answers : (n : ℕ) → Refuses z old new needs Asks found after (Stopped n) → Answers z old new client client c (reply.Stopped n)
     stopped_answers n f =
-        else_answers z old new _ (with_events (stopped n ∷ []) after) (front ++ stopped n ∷ []) client client c (reply.Stopped n) 0 f.2 same_client own (past_more (stopped n))
+        else_answers z old new _ (with_events (stopped n ∷ []) after) (front ++ stopped n ∷ []) client client c (reply.Stopped n) 0 f.2 same_client own (past_with (stopped n))
         (record {
           acknowledges = refl;
           tables = λ before. sym (quiet_more front (stopped n) k.quiet (λ due. refl) before);
@@ -188,7 +194,7 @@ module _ {D : Type 0} (z : SharedState D) (old new : SeatState) (client : Client
           explained = λ event there. ⊎_elim (λ (t : IsIn event front). k.explained (reply.Stopped n) tt event t)
               (λ (same : stopped n ≡ event). subst (IsExplained it.client client.txn c (Some (reply.Stopped n))) same tt) (in_either event (stopped n) front there);
         })
-        refl (same_last (reply.Stopped n) refl)
+        refl (still_noted (reply.Stopped n) tt refl f.2) (same_last (reply.Stopped n) refl)
         (λ first is_first before p e agrees. by_condition e before (reply.Stopped n) (
           inl (let m = logged.needs_is in let some = logged.some in omega (arith, m, some)),
           fresh_number first before e n (with_events (stopped n ∷ []) after) f.2 f.0 p agrees,
@@ -197,7 +203,7 @@ module _ {D : Type 0} (z : SharedState D) (old new : SeatState) (client : Client
 
     failed_answers : Refuses z old new needs Asks found after LogFault → Answers z old new client client c reply.FaultLog
     failed_answers f = let entries = f.2.0 in let goes = f.2.2 in
-        else_answers z old new _ (with_events (log_failed entries ∷ []) after) (front ++ log_failed entries ∷ []) client client c reply.FaultLog 0 goes same_client own (past_more (log_failed entries))
+        else_answers z old new _ (with_events (log_failed entries ∷ []) after) (front ++ log_failed entries ∷ []) client client c reply.FaultLog 0 goes same_client own (past_with (log_failed entries))
         (record {
           acknowledges = refl;
           tables = λ before. sym (quiet_more front (log_failed entries) k.quiet (λ due. refl) before);
@@ -210,7 +216,7 @@ module _ {D : Type 0} (z : SharedState D) (old new : SeatState) (client : Client
           explained = λ event there. ⊎_elim (λ (t : IsIn event front). k.explained reply.FaultLog tt event t)
               (λ (same : log_failed entries ≡ event). subst (IsExplained it.client client.txn c (Some reply.FaultLog)) same tt) (in_either event (log_failed entries) front there);
         })
-        refl (same_last reply.FaultLog refl)
+        refl (still_noted reply.FaultLog tt refl goes) (same_last reply.FaultLog refl)
         (λ first is_first before p e agrees. by_condition e before reply.FaultLog (
           subst (AsksFor client.txn c) (sym (agrees.past (log_failed entries) (subst (IsIn (log_failed entries)) (sym (ap (λ (q : Participant). q.past) goes.participant)) (in_last (log_failed entries) after.past))).0) (logged.asks entries f.2.1),
           needs_no_renewal e client.txn c (let n = logged.needs_is in let some = logged.some in omega (arith, n, some)),
@@ -224,13 +230,13 @@ module _ {D : Type 0} (z : SharedState D) (old new : SeatState) (client : Client
 
 module _ {D : Type 0} (z : SharedState D) (old new : SeatState) (needs : ℕ) (Asks : List Entry → Type 0) (found after : Participant) where
   -- the client has what it had
-  pub refused_holds : after.transactions ≡ old.knows.participant.transactions → after.direct ≡ old.knows.participant.direct → after.registered ≡ old.knows.participant.registered
+  pub refused_holds : after.transactions ≡ old.knows.participant.transactions → after.direct ≡ old.knows.participant.direct → after.registered ≡ old.knows.participant.registered → KeepsPast old.knows.participant.past after.past
       → (why : TxnError) → Refuses z old new needs Asks found after why → (h : HoldingsState) → Holds z old h → Holds z new h
-  refused_holds ts direct registered Memory f h has = holds_still z old new after ts direct registered f h has
-  refused_holds ts direct registered (Stopped n) f h has = holds_still z old new (with_events (stopped n ∷ []) after) ts direct registered f.2 h has
-  refused_holds ts direct registered (NumbersFull published limit) f h has = holds_still z old new (with_events (based_at published f.2.world.installed.last.segment.base ∷ []) after) ts direct registered f.4 h has
-  refused_holds ts direct registered LogFault f h has = holds_still z old new (with_events (log_failed f.2.0 ∷ []) after) ts direct registered f.2.2 h has
-  refused_holds ts direct registered _ f h has = absurd f
+  refused_holds ts direct registered past Memory f h has = holds_still z old new after ts direct registered f past h has
+  refused_holds ts direct registered past (Stopped n) f h has = holds_still z old new (with_events (stopped n ∷ []) after) ts direct registered f.2 (λ event there. past_more after.past (stopped n ∷ []) event (past event there)) h has
+  refused_holds ts direct registered past (NumbersFull published limit) f h has = let event : Event = based_at published f.2.world.installed.last.segment.base in holds_still z old new (with_events (event ∷ []) after) ts direct registered f.4 (λ other there. past_more after.past (event ∷ []) other (past other there)) h has
+  refused_holds ts direct registered past LogFault f h has = holds_still z old new (with_events (log_failed f.2.0 ∷ []) after) ts direct registered f.2.2 (λ event there. past_more after.past (log_failed f.2.0 ∷ []) event (past event there)) h has
+  refused_holds ts direct registered past _ f h has = absurd f
 
   -- where no reply is due, memory was wanting
   pub refused_memory : (why : TxnError) → refusal why ≡ None → Refuses z old new needs Asks found after why → Continues z old new after

@@ -37,7 +37,7 @@ use Rattle.wp_answers.specs.Replies.{renewal_refusal}
 use Rattle.wp_client.proofs.Growing.{of_two, of_three, seen_taken, last_still}
 use Rattle.wp_answers.proofs.Maintaining.{renewal_is, known_of, tables_answers, halted_answers, nothing_answers}
 use Rattle.wp_answers.proofs.Risen.{base_between}
-use Rattle.wp_client.proofs.Staying.{holds_still, keeps_holds, broke_off}
+use Rattle.wp_client.proofs.Staying.{past_more, holds_still, keeps_holds, broke_off}
 
 module _ {D : Type 0} (z : SharedState D) (old new : SeatState) where
   abbrev it : Participant
@@ -54,7 +54,7 @@ module _ {D : Type 0} (z : SharedState D) (old new : SeatState) where
     fresh_end n is before low e agrees = let high = shorter e.history seen agrees.seen in (omega (arith, is, low), omega (arith, is, high))
 
     -- the base is no lower than the one that the client knows of
-    base_risen : (t : Installed) (f : Finds z old new t) (first : InstalledEdit) → WasLast content z.first first → (before : Progress) → IsProgress first it before → before.base ≤ t.last.segment.base
+    base_risen : (t : Installed) (f : Finds z old new t) (first : InstalledEdit) → WasLast content z.first first → (before : Progress) → IsProgress first old client.txn before → before.base ≤ t.last.segment.base
     base_risen t f first is_first before p =
         let known = base_between first f.world f.there.reached old.by f.actor f.there.there (one_was_first content z.first f.world.first_edit first f.there.first_edit is_first) before.base
         (subst (λ (past : List Event). (before.base ≡ first.segment.base) ⊎ HasBase past before.base) (sym f.past_is) p.base) in
@@ -63,9 +63,9 @@ module _ {D : Type 0} (z : SharedState D) (old new : SeatState) where
         let same : f.world.installed.last.segment.base ≡ t.last.segment.base = ap (λ (x : Installed). x.last.segment.base) table in
         omega (arith, known.1, same)
 
-    renewed_condition : (t : Installed) (done : Renewed) (k : HasRenewed (Continues z old new) z old new t done) (first : InstalledEdit) → WasLast content z.first first → (before : Progress) → IsProgress first it before → (e : Evidence) → Agrees e z new.knows.participant → Condition e before client 0 command.Renew (reply.Renewed done.at done.carried)
+    renewed_condition : (t : Installed) (done : Renewed) (k : HasRenewed (Continues z old new) z old new t done) (first : InstalledEdit) → WasLast content z.first first → (before : Progress) → IsProgress first old client.txn before → (e : Evidence) → Agrees e z new.knows.participant → Condition e before client 0 command.Renew (reply.Renewed done.at done.carried)
     renewed_condition t done k first is_first before p e agrees = (
-      fresh_end done.at k.at before (last_still first it new.knows.participant before k.goes_on.seen p) e agrees,
+      fresh_end done.at k.at before (last_still first old client.txn new.knows.participant before k.goes_on.seen p) e agrees,
       (let risen = base_risen t k.found first is_first before p in let below = k.busy.below in let at = k.at in omega (arith, risen, below, at)),
       k.carried ∙ ap (λ (h : List Entry). length (undecided h)) (sym (ap (λ (m : ℕ). take m e.history) k.at ∙ seen_taken e.history seen agrees.seen)),
     )
@@ -102,13 +102,13 @@ module _ {D : Type 0} (z : SharedState D) (old new : SeatState) where
           remembered = (edit, sym k.at, sym k.at, inr (inl refl));
           explained = of_two (IsExplained it.client client.txn command.Renew (Some (reply.Renewed done.at done.carried))) found made tt (ap (λ (b : Bool). b && b) (eq-eqb (length seen) done.at (sym k.at)));
         })
-        refl (λ before low. let at = k.at in omega (arith, at))
+        refl (let at = k.at in let more = shorter seen it.seen k.goes_on.seen in omega (arith, at, more)) (λ before low. let at = k.at in omega (arith, at))
         (λ first is_first before p e agrees. renewed_condition t done k first is_first before p e agrees)
 
     nothing_beside : (t : Installed) → IsRenewed (Continues z old new) z old new t → Answers z old new client client command.Renew reply.Nothing
     nothing_beside t k =
         nothing_answers z old new command.Renew renewal_is client t (λ edit. edit.segment.base ≡ length seen) (record { found = k.found; running = k.running; idle = k.based; goes_on = k.goes_on })
-        (λ first is_first before p e agrees known. nothing_condition t k.based before (last_still first it new.knows.participant before k.goes_on.seen p) e known.1)
+        (λ first is_first before p e agrees known. nothing_condition t k.based before (last_still first old client.txn new.knows.participant before k.goes_on.seen p) e known.1)
 
     -- the log was closed before
     closed_beside : (t : Installed) (n : ℕ) → IsClosed (Continues z old new) z old new t n → Answers z old new client client command.Renew (reply.Stopped n)
@@ -126,9 +126,9 @@ module _ {D : Type 0} (z : SharedState D) (old new : SeatState) where
           remembered = inr (inl refl);
           explained = of_two (IsExplained it.client client.txn command.Renew (Some (reply.Stopped n))) found (stopped n) tt tt;
         })
-        refl (λ before low. low)
+        refl tt (λ before low. low)
         (λ first is_first before p e agrees.
-        (inr refl, fresh_end n k.number before (last_still first it new.knows.participant before k.goes_on.seen p) e agrees, known_of z old new events k.goes_on e agrees (stopped n) (inr (inl refl))))
+        (inr refl, fresh_end n k.number before (last_still first old client.txn new.knows.participant before k.goes_on.seen p) e agrees, known_of z old new events k.goes_on e agrees (stopped n) (inr (inl refl))))
 
     -- a device of the tables failed, and the log takes nothing more
     broken_beside : (t : Installed) → HasBrokenOff (Continues z old new) z old new t → Answers z old new client client command.Renew reply.FaultTables
@@ -146,7 +146,7 @@ module _ {D : Type 0} (z : SharedState D) (old new : SeatState) where
           remembered = tt;
           explained = of_three (IsExplained it.client client.txn command.Renew (Some reply.FaultTables)) found fault log_stopped tt tt refl;
         })
-        refl (λ before low. low)
+        refl tt (λ before low. low)
         (λ first is_first before p e agrees. let known = known_of z old new events k.goes_on e agrees fault (inr (inl refl)) in
         fails_condition t k.asked k.survives.1.0 k.busy.below (subst (λ (x : InstalledEdit). IfSome k.asked (λ edit. edit ≡ x)) k.survives.1.1 k.survives.2) k.goes_on.seen before p.last e agrees known.0 known.1)
 
@@ -166,24 +166,24 @@ module _ {D : Type 0} (z : SharedState D) (old new : SeatState) where
           remembered = tt;
           explained = of_two (IsExplained it.client client.txn command.Renew (Some reply.FaultLog)) found fault tt tt;
         })
-        refl (λ before low. low)
+        refl tt (λ before low. low)
         (λ first is_first before p e agrees. let known = known_of z old new events k.goes_on e agrees fault (inr (inl refl)) in (asks_none client.txn e.failed.entries known.0, known.1 refl))
 
     pub renewed_answers : (done : Renewed) → Renews z old (Ok done) new → IsAnswered z old new client client command.Renew (reply.Renewed done.at done.carried)
-    renewed_answers done k = (renewed_beside done k, λ world stands only first is_first store so. renewed_alone z first old new only store so (world, stands) is_first client done k)
+    renewed_answers done k = (renewed_beside done k, λ world stands only first is_first store so locks. renewed_alone z first old new only store so (world, stands) is_first client done k)
 
     pub not_renewed_answers : (why : RenewError) (r : Reply) → renewal_refusal why ≡ Some r → Renews z old (Err why) new → IsAnswered z old new client client command.Renew r
     not_renewed_answers Memory r is f = absurd cc
     not_renewed_answers Nothing r is (t, k) = subst (IsAnswered z old new client client command.Renew) (same_some reply.Nothing r is)
-        (nothing_beside t k, λ world stands only first is_first store so. nothing_renewed_alone z first old new only store so (world, stands) is_first client (t, k))
+        (nothing_beside t k, λ world stands only first is_first store so locks. nothing_renewed_alone z first old new only store so (world, stands) is_first client (t, k))
     not_renewed_answers TableFault r is (t, k) = subst (IsAnswered z old new client client command.Renew) (same_some reply.FaultTables r is)
-        (broken_beside t k, λ world stands only first is_first store so. renew_failed_alone z first old new only store so (world, stands) is_first client (t, k))
+        (broken_beside t k, λ world stands only first is_first store so locks. renew_failed_alone z first old new only store so (world, stands) is_first client (t, k))
     not_renewed_answers LogFault r is (t, k) = subst (IsAnswered z old new client client command.Renew) (same_some reply.FaultLog r is)
-        (log_fault_beside t k, λ world stands only first is_first store so. renew_log_failed_alone z first old new only store so (world, stands) is_first client (t, k))
+        (log_fault_beside t k, λ world stands only first is_first store so locks. renew_log_failed_alone z first old new only store so (world, stands) is_first client (t, k))
     not_renewed_answers (Stopped n) r is (t, k) = subst (IsAnswered z old new client client command.Renew) (same_some (reply.Stopped n) r is)
-        (closed_beside t n k, λ world stands only first is_first store so. renew_stopped_alone z first old new only store so (world, stands) is_first client n (t, k))
+        (closed_beside t n k, λ world stands only first is_first store so locks. renew_stopped_alone z first old new only store so (world, stands) is_first client n (t, k))
     not_renewed_answers (TablesStopped flushed) r is (t, k) = subst (IsAnswered z old new client client command.Renew) (same_some (reply.Halted flushed) r is)
-        (halted_answers z old new command.Renew renewal_is client t flushed k, λ world stands only first is_first store so. renew_halted_alone z first old new only store so (world, stands) is_first client flushed (t, k))
+        (halted_answers z old new command.Renew renewal_is client t flushed k, λ world stands only first is_first store so locks. renew_halted_alone z first old new only store so (world, stands) is_first client flushed (t, k))
 
     pub not_renewed_breaks : (why : RenewError) → renewal_refusal why ≡ None → Renews z old (Err why) new → BreaksOff old new client command.Renew
     not_renewed_breaks Memory none (t, k) = broke_off z old new client command.Renew k.goes_on
@@ -192,4 +192,4 @@ module _ {D : Type 0} (z : SharedState D) (old new : SeatState) where
   -- what the client has then: what it had
   pub renewal_holds : (answer : Result Renewed RenewError) → Renews z old answer new → (h : HoldingsState) → Holds z old h → Holds z new h
   renewal_holds (Err Memory) (t, k) = keeps_holds z old new k.goes_on
-  renewal_holds _ (t, k) = holds_still z old new _ refl refl refl k.goes_on
+  renewal_holds _ (t, k) = holds_still z old new _ refl refl refl k.goes_on (past_more _ _)

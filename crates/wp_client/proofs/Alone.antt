@@ -4,9 +4,12 @@ pub mod Published
 pub mod Worlds
 pub mod Seated
 pub mod Quiet
+pub mod Kept
 pub mod Names
 pub mod Changing
+pub mod Keys
 pub mod Staged
+pub mod Locking
 pub mod Board
 pub mod ReadKeys
 pub mod Snapshots

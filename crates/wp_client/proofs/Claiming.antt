@@ -27,14 +27,14 @@ use Rattle.wp_open_txns.specs.Actors.{no_changes}
 use Rattle.wp_open_txns.specs.Calls.{Finds, with_transaction, Begins, Takes, TakesPrepared}
 use Rattle.wp_open_txns.specs.Txn.{OpenState, PreparedState, HasOpen}
 use Rattle.wp_replies.specs.declared.client.LabelledSnapshot.{LabelledSnapshot}
-use Rattle.wp_replies.specs.declared.client.Txn.TheVariants.{Idle, Open, Prepared}
+use Rattle.wp_replies.specs.Txn.{Idle, Open, Prepared}
 use Rattle.wp_replies.specs.Client.{Client}
 use Rattle.wp_replies.specs.Progress.{Progress}
 use Rattle.wp_replies.specs.Replies.{Evidence, WasUndecided}
 use Rattle.wp_client.proofs.Alone.Names.{begun_alone, took_alone, taken_alone, unknown_alone, never_in_use}
 use Rattle.wp_client.specs.declared.holdings.HeldTxn.TheVariants as held
 use Rattle.wp_client.specs.Agrees.{Agrees, KnowsHolder}
-use Rattle.wp_client.specs.Answers.{IsProgress, IsExplained, Answers, BreaksOff, IsAnswered}
+use Rattle.wp_client.specs.Answers.{AreNoted, IsProgress, IsExplained, Answers, BreaksOff, IsAnswered}
 use Rattle.wp_client.specs.Holdings.{staged_of, HoldsTxn, HoldsFrom}
 use Rattle.wp_client.specs.Replies.{refusal}
 use Rattle.wp_client.proofs.Fitting.{else_answers}
@@ -43,7 +43,7 @@ use Rattle.wp_client.proofs.Growing.{of_one, seen_taken, last_still}
 use Rattle.wp_client.proofs.Holders.{account_is, found_taken}
 use Rattle.wp_client.proofs.Labels.{itself}
 use Rattle.wp_client.proofs.Reading.{keeps_answers}
-use Rattle.wp_client.proofs.Staying.{holds_still, keeps_holds, broke_off, only_this, has_now, holds_now}
+use Rattle.wp_client.proofs.Staying.{past_more, holds_still, keeps_holds, broke_off, only_this, has_now, holds_now}
 
 module _ {D : Type 0} (z : SharedState D) (old new : SeatState) (name : List ℕ) (snapshots : List LabelledSnapshot) where
   abbrev it : Participant
@@ -62,8 +62,10 @@ module _ {D : Type 0} (z : SharedState D) (old new : SeatState) (name : List ℕ
   begun_answers txn k = (
     else_answers z old new _ (with_events (claimed name ∷ []) (with_transaction name no_changes it)) (claimed name ∷ []) me (having (Open (staged_of txn)) snapshots) (command.Begin name) reply.Begun 0 k.2 refl refl refl
         (record { acknowledges = refl; tables = λ before. refl; labels = λ before. refl; log_failed = refl; log_stopped = refl; tables_failed = refl; once = omega arith; remembered = tt; explained = of_one (IsExplained it.client Idle (command.Begin name) (Some reply.Begun)) (claimed name) (itself name) })
-        (ap (λ (x : OpenState). having (Open (staged_of x)) snapshots) k.0) (λ before low. low) (λ first is_first before p e agrees. tt),
-    λ world stands only first is_first store so. begun_alone z first old new only store so (world, stands) snapshots name txn k,
+        (ap (λ (x : OpenState). having (Open (staged_of x)) snapshots) k.0)
+        (λ before low are. subst (λ (x : OpenState). AreNoted new (Open (staged_of x)) []) (sym k.0) (record { each = tt; all = λ key its. absurd cc }))
+        (λ before low. low) (λ first is_first before p e agrees. tt),
+    λ world stands only first is_first store so locks. begun_alone z first old new only store so (world, stands) snapshots name txn k,
   )
 
   -- the name is live
@@ -72,12 +74,12 @@ module _ {D : Type 0} (z : SharedState D) (old new : SeatState) (name : List ℕ
       let account : Account = account_of it f.world.locks f.published None (holder.Txn name) in let event : Event = found None (holder.Txn name) (length it.seen) account in
       else_answers z old new _ (with_events (event ∷ []) it) (event ∷ []) me me (command.Begin name) (reply.Taken other) 0 f.goes_on refl refl refl
       (record { acknowledges = refl; tables = λ before. refl; labels = λ before. refl; log_failed = refl; log_stopped = refl; tables_failed = refl; once = omega arith; remembered = tt; explained = of_one (IsExplained it.client Idle (command.Begin name) (Some (reply.Taken other))) event tt })
-      refl (λ before low. low)
+      refl (λ before low are. tt) (λ before low. low)
       (λ first is_first before p e agrees. (same, found_taken e before.last name it f.world.locks f.published p.last has.direct (has.only name refl) (agrees.past event (in_past event f.goes_on))))
 
   pub not_begun_answers : HoldsTxn z old held.Idle → (why : TxnError) (r : Reply) → refusal why ≡ Some r → Begins z old name (Err why) new → IsAnswered z old new me me (command.Begin name) r
   not_begun_answers has (Taken other) r is k = subst (IsAnswered z old new me me (command.Begin name)) (same_some (reply.Taken other) r is)
-      (taken_answers has other k.0 k.1, λ world stands only first is_first store so. taken_alone z first old new only store so (world, stands) snapshots (λ own. has.only own refl) name other k)
+      (taken_answers has other k.0 k.1, λ world stands only first is_first store so locks. taken_alone z first old new only store so (world, stands) snapshots (λ own. has.only own refl) name other k)
   not_begun_answers has Memory r is k = absurd cc
   not_begun_answers has _ r is k = absurd k
 
@@ -95,13 +97,13 @@ module _ {D : Type 0} (z : SharedState D) (old new : SeatState) (name : List ℕ
   took_beside txn k =
       else_answers z old new _ (with_events (took name ∷ []) (with_transaction name k.has.transaction it)) (took name ∷ []) me (having (Prepared txn.number) snapshots) (command.Take name) reply.Took txn.number k.goes_on refl refl refl
       (record { acknowledges = refl; tables = λ before. refl; labels = λ before. refl; log_failed = refl; log_stopped = refl; tables_failed = refl; once = omega arith; remembered = tt; explained = of_one (IsExplained it.client Idle (command.Take name) (Some reply.Took)) (took name) (itself name) })
-      refl (λ before low. low)
+      refl (λ before low are. tt) (λ before low. low)
       (λ first is_first before p e agrees. was_undecided first before e p agrees)
     where
-      was_undecided : (first : InstalledEdit) (before : Progress) (e : Evidence) → IsProgress first it before → Agrees e z new.knows.participant → WasUndecided e.history before.last name txn.number
+      was_undecided : (first : InstalledEdit) (before : Progress) (e : Evidence) → IsProgress first old Idle before → Agrees e z new.knows.participant → WasUndecided e.history before.last name txn.number
       was_undecided first before e p agrees =
           let seen = new.knows.participant.seen in let there = seen_taken e.history seen agrees.seen in let is = found_named seen name txn.number k.number_is in
-          let low = last_still first it new.knows.participant before k.goes_on.seen p in let high = shorter e.history seen agrees.seen in record {
+          let low = last_still first old Idle new.knows.participant before k.goes_on.seen p in let high = shorter e.history seen agrees.seen in record {
             at = length seen;
             fresh = (low, high);
             undecided = ap (λ (h : List Entry). is_undecided h txn.number) there ∙ is.0;
@@ -109,13 +111,13 @@ module _ {D : Type 0} (z : SharedState D) (old new : SeatState) (name : List ℕ
           }
 
   pub took_answers : (txn : PreparedState) → Takes z old name txn new → IsAnswered z old new me (having (Prepared txn.number) snapshots) (command.Take name) reply.Took
-  took_answers txn k = (took_beside txn k, λ world stands only first is_first store so. took_alone z first old new only store so (world, stands) snapshots name txn k)
+  took_answers txn k = (took_beside txn k, λ world stands only first is_first store so locks. took_alone z first old new only store so (world, stands) snapshots name txn k)
 
   unknown_answers : (other : List ℕ) (n : ℕ) → TakesPrepared z old name (Err (Unknown other n)) new → Answers z old new me me (command.Take name) (reply.Unknown other n)
   unknown_answers other n k =
-      keeps_answers z old new me me (command.Take name) (reply.Unknown other n) k.3 (record { acknowledges = refl; tables = λ before. refl; labels = λ before. refl; log_failed = refl; tables_failed = refl; remembered = tt })
-      refl (λ before low. let is = k.1 in omega (arith, is))
-      (λ first is_first before p e agrees. let seen = new.knows.participant.seen in let is = k.1 in let low = last_still first it new.knows.participant before k.3.seen p in let high = shorter e.history seen agrees.seen in
+      keeps_answers z old new me (command.Take name) (reply.Unknown other n) k.3 (record { acknowledges = refl; tables = λ before. refl; labels = λ before. refl; log_failed = refl; tables_failed = refl; remembered = tt; keys = λ before. refl })
+      refl (let is = k.1 in let more = shorter new.knows.participant.seen it.seen k.3.seen in omega (arith, is, more)) (λ before low. let is = k.1 in omega (arith, is))
+      (λ first is_first before p e agrees. let seen = new.knows.participant.seen in let is = k.1 in let low = last_still first old Idle new.knows.participant before k.3.seen p in let high = shorter e.history seen agrees.seen in
       (k.0, (omega (arith, low, is), omega (arith, high, is)), ap (λ (h : List Entry). named h name) (ap (λ (m : ℕ). take m e.history) is ∙ seen_taken e.history seen agrees.seen) ∙ k.2))
 
   -- another client has it
@@ -125,14 +127,14 @@ module _ {D : Type 0} (z : SharedState D) (old new : SeatState) (name : List ℕ
       let of_other : account ≡ another = account_is it f.world.locks f.published None (holder.Txn name) (ap (λ (x : Option Transaction). is_some x) (has.only name refl)) ∙ ap (account_by f.published) k.2.1 in
       else_answers z old new _ (with_events (event ∷ []) it) (event ∷ []) me me (command.Take name) (reply.InUse other) 0 f.goes_on refl refl refl
       (record { acknowledges = refl; tables = λ before. refl; labels = λ before. refl; log_failed = refl; log_stopped = refl; tables_failed = refl; once = omega arith; remembered = tt; explained = of_one (IsExplained it.client Idle (command.Take name) (Some (reply.InUse other))) event tt })
-      refl (λ before low. low)
+      refl (λ before low are. tt) (λ before low. low)
       (λ first is_first before p e agrees. (k.0, subst (KnowsHolder e None (holder.Txn name) (length it.seen)) of_other (agrees.past event (in_past event f.goes_on))))
 
   pub not_taken_answers : HoldsTxn z old held.Idle → (why : TxnError) (r : Reply) → refusal why ≡ Some r → TakesPrepared z old name (Err why) new → IsAnswered z old new me me (command.Take name) r
   not_taken_answers has (Unknown other at) r is k = subst (IsAnswered z old new me me (command.Take name)) (same_some (reply.Unknown other at) r is)
-      (unknown_answers other at k, λ world stands only first is_first store so. unknown_alone z first old new only store so (world, stands) snapshots (λ own. has.only own refl) name other at k)
+      (unknown_answers other at k, λ world stands only first is_first store so locks. unknown_alone z first old new only store so (world, stands) snapshots (λ own. has.only own refl) name other at k)
   not_taken_answers has (InUse other) r is k = subst (IsAnswered z old new me me (command.Take name)) (same_some (reply.InUse other) r is)
-      (in_use_answers has other k, λ world stands only first is_first store so. absurd (never_in_use z first old new only store so (world, stands) snapshots (λ own. has.only own refl) name other k))
+      (in_use_answers has other k, λ world stands only first is_first store so locks. absurd (never_in_use z first old new only store so (world, stands) snapshots (λ own. has.only own refl) name other k))
   not_taken_answers has Memory r is k = absurd cc
   not_taken_answers has _ r is k = absurd k
 
@@ -153,24 +155,24 @@ module _ {D : Type 0} (z : SharedState D) (old new : SeatState) (name : List ℕ
   none_else own other ne = has.only other refl
 
   pub begun_holds : (txn : OpenState) → Begins z old name (Ok txn) new → HoldsFrom z old new held.Idle (held.Open txn)
-  begun_holds txn k = let is : OpenState = record { name = name; batch = [] } in
+  begun_holds txn k = let is : OpenState = record { name = name; batch = []; locked = []; pin = None } in
       subst (λ (x : OpenState). HoldsFrom z old new held.Idle (held.Open x)) (sym k.0)
-      (holds_now _ z old new _ k.2 held.Idle (held.Open is) refl (has_now _ z old new _ k.2 held.Idle (held.Open is) refl has (subst (HasOpen new) k.0 k.1) (only_this old.knows.participant.transactions name (none_else name) no_changes)))
+      (holds_now _ z old new _ k.2 held.Idle (held.Open is) (λ r. refl) (has_now _ z old new _ k.2 held.Idle (held.Open is) refl has (subst (HasOpen new) k.0 k.1) (only_this old.knows.participant.transactions name (none_else name) no_changes)))
 
   pub not_begun_holds : (why : TxnError) → Begins z old name (Err why) new → HoldsFrom z old new held.Idle held.Idle
-  not_begun_holds (Taken other) k = holds_from z old new held.Idle (holds_still z old new _ refl refl refl k.1.goes_on)
+  not_begun_holds (Taken other) k = holds_from z old new held.Idle (holds_still z old new _ refl refl refl k.1.goes_on (past_more _ _))
   not_begun_holds Memory k = holds_from z old new held.Idle (keeps_holds z old new k)
   not_begun_holds _ k = absurd k
 
   pub took_holds : (txn : PreparedState) → Takes z old name txn new → HoldsFrom z old new held.Idle (held.Prepared txn)
   took_holds txn k =
-      holds_now _ z old new _ k.goes_on held.Idle (held.Prepared txn) refl (has_now _ z old new _ k.goes_on held.Idle (held.Prepared txn) refl has
+      holds_now _ z old new _ k.goes_on held.Idle (held.Prepared txn) (λ r. refl) (has_now _ z old new _ k.goes_on held.Idle (held.Prepared txn) refl has
       k.has
       (subst (λ (own : List ℕ). (other : List ℕ) → bytes_eq own other ≡ false → finite.get (finite.insert old.knows.participant.transactions name k.has.transaction) other ≡ None) (sym k.name_is)
       (only_this old.knows.participant.transactions name (none_else name) k.has.transaction)))
 
   pub not_taken_holds : (why : TxnError) → TakesPrepared z old name (Err why) new → HoldsFrom z old new held.Idle held.Idle
   not_taken_holds (Unknown other at) k = holds_from z old new held.Idle (keeps_holds z old new k.3)
-  not_taken_holds (InUse other) k = holds_from z old new held.Idle (holds_still z old new _ refl refl refl k.1.goes_on)
+  not_taken_holds (InUse other) k = holds_from z old new held.Idle (holds_still z old new _ refl refl refl k.1.goes_on (past_more _ _))
   not_taken_holds Memory k = holds_from z old new held.Idle (keeps_holds z old new k)
   not_taken_holds _ k = absurd k

@@ -4,7 +4,7 @@ use Rattle.wp_text.specs.declared.script.Command.{Command}
 use Rattle.wp_text.specs.declared.reply.Reply.{Reply}
 use Rattle.wp_shared.specs.Seats.{SharedState, SeatState}
 use Rattle.wp_replies.specs.declared.client.LabelledSnapshot.{LabelledSnapshot}
-use Rattle.wp_replies.specs.declared.client.Txn.{Txn}
+use Rattle.wp_replies.specs.Txn.{Txn}
 use Rattle.wp_replies.specs.Client.{Client}
 use Rattle.wp_client.specs.declared.holdings.HeldTxn.{HeldTxn}
 use Rattle.wp_client.specs.Answers.{BreaksOff, IsAnswered, AnswersFrom, BreaksOffFrom}

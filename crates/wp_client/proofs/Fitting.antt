@@ -13,7 +13,7 @@ use Rattle.wp_rule.specs.Shows.{WasLast}
 use Rattle.wp_parts.specs.Parts.{content}
 use Rattle.wp_shared.specs.Calls.{ContinuesWith}
 use Rattle.wp_shared.specs.Seats.{SharedState, SeatState}
-use Rattle.wp_replies.specs.declared.client.Txn.{Txn}
+use Rattle.wp_replies.specs.Txn.{Txn}
 use Rattle.wp_replies.specs.Client.{Client}
 use Rattle.wp_replies.specs.After.{after_reply}
 use Rattle.wp_replies.specs.Kind.{acknowledged, is_fault, is_tables_fault, is_renewal, stops_log, last_after, tables_after, base_after}
@@ -24,6 +24,7 @@ use Rattle.wp_client.specs.Alone.{log_faults, device_faults, tables_faults}
 use Rattle.wp_client.specs.Answers.{HasBase, IsProgress, IsExplained, findings, IsRemembered, Answers}
 use Rattle.wp_client.proofs.Staying.{in_place}
 use Rattle.wp_client.proofs.Growing.{progress_by, last_still}
+use Rattle.wp_client.proofs.Noting.{KeepsNoted}
 
 -- The reply acknowledges these numbers, and the client, in this state of its transaction, came to these events by it. It says of
 -- tables what they do, and nothing of labels.
@@ -51,11 +52,11 @@ module _ {D : Type 0} (z : SharedState D) (old new : SeatState) where
 
   -- The seat published nothing, and remembers these events.
   pub else_answers : (Kept : Fact → Type 0) (after : Participant) (events : List Event) (was now : Client) (c : Command) (r : Reply) (number : ℕ) → ContinuesWith Kept z old new after → after.client ≡ it.client → after.own ≡ it.own → after.past ≡ it.past ++ events
-      → Fits c r [] events it.client was.txn → now ≡ after_reply number was c r
+      → Fits c r [] events it.client was.txn → now ≡ after_reply number was c r → KeepsNoted old new was.txn now.txn c r
       → ((before : ℕ) → before ≤ length new.knows.participant.seen → last_after before c r ≤ length new.knows.participant.seen)
-      → ((first : InstalledEdit) → WasLast content z.first first → (before : Progress) → IsProgress first it before → (e : Evidence) → Agrees e z new.knows.participant → Allows e before was number c r)
+      → ((first : InstalledEdit) → WasLast content z.first first → (before : Progress) → IsProgress first old was.txn before → (e : Evidence) → Agrees e z new.knows.participant → Allows e before was number c r)
       → Answers z old new was now c r
-  else_answers Kept after events was now c r number goes client own past k is low allowed = let grown : new.knows.participant.past ≡ it.past ++ events = ap (λ (p : Participant). p.past) goes.participant ∙ past in record {
+  else_answers Kept after events was now c r number goes client own past k is noted low allowed = let grown : new.knows.participant.past ≡ it.past ++ events = ap (λ (p : Participant). p.past) goes.participant ∙ past in record {
     stays = in_place Kept z old new after goes client;
     own = ap (λ (p : Participant). p.own) goes.participant ∙ (own ∙ (sym (append-nil it.own) ∙ ap (λ (ns : List ℕ). it.own ++ ns) (sym k.acknowledges)));
     within = λ n there. absurd (subst (IsIn n) k.acknowledges there);
@@ -69,7 +70,8 @@ module _ {D : Type 0} (z : SharedState D) (old new : SeatState) where
     remembered = k.remembered;
     number = number;
     after = is;
-    progress = λ first is_first before p. progress_by first it new.knows.participant events before _ grown p (low before.last (last_still first it new.knows.participant before goes.seen p)) (k.tables before.tables) (base_noted before.base r events k.remembered)
-        (λ label known. inl (subst (λ (labels : List (List ℕ)). knows_label labels label ≡ true) (k.labels before.labels) known));
+    progress = λ first is_first before p. progress_by first old new was.txn now.txn events before _ grown p (low before.last (last_still first old was.txn new.knows.participant before goes.seen p)) (k.tables before.tables) (base_noted before.base r events k.remembered)
+        (λ label known. inl (subst (λ (labels : List (List ℕ)). knows_label labels label ≡ true) (k.labels before.labels) known))
+        (noted before p.last p.keys);
     allowed = allowed;
   }

@@ -7,7 +7,8 @@ use Rattle.wp_text.specs.declared.reply.Reply.TheVariants as reply
 use Rattle.wp_model.proofs.Tests.{same_some}
 use Rattle.wp_shared.specs.Seats.{SharedState, SeatState}
 use Rattle.wp_replies.specs.Plan.{read_reply}
-use Rattle.wp_client.specs.Fresh.{WasPublished, NamesSeen}
+use Rattle.wp_read.specs.Fresh.{WasPublished}
+use Rattle.wp_client.specs.Fresh.{NamesSeen}
 use Rattle.wp_client.specs.Replies.{own_reply}
 
 module _ {D : Type 0} (z : SharedState D) (old new : SeatState) where

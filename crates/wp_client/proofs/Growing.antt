@@ -11,12 +11,13 @@ use Rattle.wp_core.specs.Views.{Event, told, heard, renewed}
 use Rattle.wp_core.specs.World.{Participant}
 use Rattle.wp_core.proofs.KeepsSeen.{shorter}
 use Rattle.wp_core.proofs.PastsGrow.{in_front}
-use Rattle.wp_shared.specs.Seats.{SharedState}
+use Rattle.wp_shared.specs.Seats.{SharedState, SeatState}
 use Rattle.wp_shared.proofs.Onward.{starts_on}
+use Rattle.wp_replies.specs.Txn.{Txn}
 use Rattle.wp_replies.specs.Progress.{Progress, knows_label}
 use Rattle.wp_replies.specs.Replies.{Evidence}
 use Rattle.wp_client.specs.Agrees.{Agrees}
-use Rattle.wp_client.specs.Answers.{HasLabel, HasBase, IsProgress}
+use Rattle.wp_client.specs.Answers.{HasLabel, HasBase, AreNoted, IsProgress}
 
 pub in_back : {X : Type 0} (x : X) (xs ys : List X) → IsIn x ys → IsIn x (xs ++ ys)
 in_back x [] ys k = k
@@ -82,10 +83,12 @@ label_new past events label (n, there) =
 
 -- The client knows of the tables by what is new, of the base that it knew of, or of one that is new, and of no label that is not in the
 -- past, or among what is new there.
-pub progress_by : (first : InstalledEdit) (p q : Participant) (events : List Event) (before after : Progress) → q.past ≡ p.past ++ events → IsProgress first p before → after.last ≤ length q.seen → after.tables ≡ fold due_after before.tables events
+pub progress_by : (first : InstalledEdit) (old new : SeatState) (was now : Txn) (events : List Event) (before after : Progress) → new.knows.participant.past ≡ old.knows.participant.past ++ events → IsProgress first old was before
+    → after.last ≤ length new.knows.participant.seen → after.tables ≡ fold due_after before.tables events
     → (after.base ≡ before.base) ⊎ HasBase events after.base
-    → ((label : List ℕ) → knows_label after.labels label ≡ true → (knows_label before.labels label ≡ true) ⊎ HasLabel events label) → IsProgress first q after
-progress_by first p q events before after more is low tables base labels = record {
+    → ((label : List ℕ) → knows_label after.labels label ≡ true → (knows_label before.labels label ≡ true) ⊎ HasLabel events label)
+    → AreNoted new now after.keys → IsProgress first new now after
+progress_by first old new was now events before after more is low tables base labels keys = let p = old.knows.participant in let q = new.knows.participant in record {
   last = low;
   tables = tables ∙ (ap (λ (due : ℕ). fold due_after due events) is.tables ∙ (sym (due_more first.tables p.past events) ∙ ap (λ (past : List Event). fold due_after first.tables past) (sym more)));
   base = ⊎_elim
@@ -94,13 +97,15 @@ progress_by first p q events before after more is low tables base labels = recor
       (λ (k : HasBase events after.base). inr (subst (λ (past : List Event). HasBase past after.base) (sym more) (base_new p.past events after.base k))) base;
   labels = λ label known. subst (λ (past : List Event). HasLabel past label) (sym more)
       (⊎_elim (λ (k : knows_label before.labels label ≡ true). label_still p.past events label (is.labels label k)) (λ (k : HasLabel events label). label_new p.past events label k) (labels label known));
+  keys = keys;
 }
 
 -- ... which install nothing: it knows of as many tables as before, and of the same base
-pub progress_still : (first : InstalledEdit) (p q : Participant) (events : List Event) (before after : Progress) → q.past ≡ p.past ++ events → InstallNothing events → IsProgress first p before → after.last ≤ length q.seen → after.tables ≡ before.tables → after.base ≡ before.base
-    → ((label : List ℕ) → knows_label after.labels label ≡ true → (knows_label before.labels label ≡ true) ⊎ HasLabel events label) → IsProgress first q after
-progress_still first p q events before after more quiet is low tables base = progress_by first p q events before after more is low (tables ∙ sym (quiet before.tables)) (inl base)
+pub progress_still : (first : InstalledEdit) (old new : SeatState) (was now : Txn) (events : List Event) (before after : Progress) → new.knows.participant.past ≡ old.knows.participant.past ++ events → InstallNothing events → IsProgress first old was before
+    → after.last ≤ length new.knows.participant.seen → after.tables ≡ before.tables → after.base ≡ before.base
+    → ((label : List ℕ) → knows_label after.labels label ≡ true → (knows_label before.labels label ≡ true) ⊎ HasLabel events label) → AreNoted new now after.keys → IsProgress first new now after
+progress_still first old new was now events before after more quiet is low tables base = progress_by first old new was now events before after more is low (tables ∙ sym (quiet before.tables)) (inl base)
 
 -- the seat has seen as much as the client was answered
-pub last_still : (first : InstalledEdit) (p q : Participant) (before : Progress) → StartsWith q.seen p.seen → IsProgress first p before → before.last ≤ length q.seen
-last_still first p q before grown is = let more = shorter q.seen p.seen grown in let low = is.last in omega (arith, more, low)
+pub last_still : (first : InstalledEdit) (old : SeatState) (was : Txn) (q : Participant) (before : Progress) → StartsWith q.seen old.knows.participant.seen → IsProgress first old was before → before.last ≤ length q.seen
+last_still first old was q before grown is = let more = shorter q.seen old.knows.participant.seen grown in let low = is.last in omega (arith, more, low)

@@ -10,7 +10,7 @@ use Rattle.wp_model.specs.LockState.{LockState}
 use Rattle.wp_core.specs.World.{Transaction, Participant}
 use Rattle.wp_rule.specs.Accounts.{is_key, is_self, account_by, account_else, account_of}
 use Rattle.wp_replies.specs.Replies.{Evidence, WasUndecided, IsBusy, IsNameTaken}
-use Rattle.wp_client.specs.Agrees.{KnowsHolder}
+use Rattle.wp_client.specs.Agrees.{IsAnother, KnowsHolder}
 
 and_false : (b : Bool) → (b && false) ≡ false
 and_false true = refl
@@ -29,11 +29,18 @@ account_is p t published key h none = rw none refl
 earlier : (h : List Entry) (last seen : ℕ) (name : List ℕ) (p : ℕ) → last ≤ seen → WasUndecided h seen name p → WasUndecided h last name p
 earlier h last seen name p low was = record { at = was.at; fresh = (let f = was.fresh.0 in omega (arith, f, low), was.fresh.1); undecided = was.undecided; named = was.named }
 
+-- another client has the transaction
+busy_of_another : (e : Evidence) (last : ℕ) (key name : List ℕ) → IsAnother e (Some key) (holder.Txn name) → IsBusy e last key (holder.Txn name)
+busy_of_another e last key name (inl has) = inr (inl has)
+busy_of_another e last key name (inr (took, inl had)) = inr (inr (inl (took, had)))
+busy_of_another e last key name (inr (took, inr locked)) = inr (inr (inr (locked, inr took)))
+
 busy_by : (e : Evidence) (last seen : ℕ) (key name : List ℕ) (published : ℕ) (live : Option (Option (List ℕ))) → last ≤ seen → KnowsHolder e (Some key) (holder.Txn name) seen (account_by published live) → IsBusy e last key (holder.Txn name)
 unfolding earlier
-busy_by e last seen key name published (Some None) low (p, was, has) = inl (p, earlier e.history last seen name p low was, has)
-busy_by e last seen key name published (Some (Some client)) low k = inr k
-busy_by e last seen key name published None low k = inr k
+busy_by e last seen key name published (Some None) low (p, was, inl has) = inl (p, earlier e.history last seen name p low was, has)
+busy_by e last seen key name published (Some None) low (p, was, inr (behind, locked)) = inr (inr (inr (locked, inl (p, earlier e.history last seen name p low was, behind))))
+busy_by e last seen key name published (Some (Some client)) low k = busy_of_another e last key name k
+busy_by e last seen key name published None low k = busy_of_another e last key name k
 
 taken_by : (e : Evidence) (last seen : ℕ) (name : List ℕ) (published : ℕ) (live : Option (Option (List ℕ))) → last ≤ seen → KnowsHolder e None (holder.Txn name) seen (account_by published live) → IsNameTaken e last name
 taken_by e last seen name published (Some None) low (p, was, has) = inl (p, earlier e.history last seen name p low was)

@@ -1,17 +1,19 @@
 -- The snapshots of a client: by their labels, and as its seat has them registered.
-use Rattle.std.proofs.Common.{◌≡◌, inl, inr, ℕ, ◌+◌, ◌≤◌, true, false, true≢false, List, [], ◌∷◌, ◌++◌, map, Some, None, refl, sym, ap, ◌∙◌, arith}
+use Rattle.std.proofs.Common.{◌≡◌, inl, inr, ℕ, ◌+◌, ◌≤◌, true, false, true≢false, List, [], ◌∷◌, ◌++◌, map, Option, Some, None, refl, sym, subst, ap, ◌∙◌, arith}
 use Rattle.std.specs.Prelude.{◌==◌}
+use Rattle.std.specs.List.{list_any}
 use Rattle.std.specs.Str.{bytes_eq}
-use Rattle.std.proofs.lemmas.Bool.{cases_Bool, and_parts}
+use Rattle.std.proofs.lemmas.Bool.{cases_Bool, and_parts, or_cases, or_left, or_right}
 use Rattle.std.proofs.lemmas.Bool.Decides.{nat_tests}
 use Rattle.std.proofs.lemmas.Slice.Eq.{bytes_eq-Decides}
 use Rattle.wp_core.specs.Changes.{is_same_registration}
 use Rattle.wp_core.specs.Lists.{IsIn, one_if, total}
 use Rattle.wp_core.specs.Reading.{Registration}
+use Rattle.wp_read.specs.Registers.{without_last}
 use Rattle.wp_replies.specs.declared.client.LabelledSnapshot.{LabelledSnapshot}
 use Rattle.wp_replies.specs.Client.{number_of, without_label, AreWithin}
 use Rattle.wp_client.specs.declared.holdings.HeldSnapshot.{HeldSnapshot}
-use Rattle.wp_client.specs.Holdings.{labelled, snapshot_of, times_registered, AreDistinct}
+use Rattle.wp_client.specs.Holdings.{labelled, snapshot_of, times_registered, registration_if, AreDistinct}
 
 -- ---- by label
 
@@ -162,6 +164,12 @@ is_registered r (s ∷ rs) some =
       | inr differs ↦ inr (is_registered r rs (let k = rw differs at some in omega (arith, k)))
     ]
 
+-- so often the pin is there
+pub pin_counts : (r : Registration) (pin : Option Registration) → pin ≡ Some r → 1 ≤ times_registered r (registration_if pin)
+pin_counts r pin is =
+    let one : one_if (is_same_registration r r) ≡ 1 = ap one_if (same_as_itself r) in
+    subst (λ (o : Option Registration). 1 ≤ times_registered r (registration_if o)) (sym is) (omega (arith, one))
+
 -- a snapshot of the client is there
 pub times_there : (front : List HeldSnapshot) (s : HeldSnapshot) (back : List HeldSnapshot) → 1 ≤ times_registered s.snapshot (map snapshot_of (front ++ s ∷ back))
 times_there front s back =
@@ -169,3 +177,26 @@ times_there front s back =
     let more = between (λ (x : Registration). one_if (is_same_registration s.snapshot x)) (map snapshot_of front) s.snapshot (map snapshot_of back) in
     let one : one_if (is_same_registration s.snapshot s.snapshot) ≡ 1 = ap one_if (same_as_itself s.snapshot) in
     omega (arith, all, more, one)
+
+same_other_way : (r s q : Registration) → s ≡ q → one_if (is_same_registration r q) ≡ one_if (is_same_registration r s)
+same_other_way r s q is = ap (λ (x : Registration). one_if (is_same_registration r x)) (sym is)
+
+found_registration : (r : Registration) (rs : List Registration) → IsIn r rs → list_any (is_same_registration r) rs ≡ true
+found_registration r [] there = absurd there
+found_registration r (s ∷ rs) (inl same) = or_left (is_same_registration r s) (list_any (is_same_registration r) rs) (subst (λ (x : Registration). is_same_registration r x ≡ true) (sym same) (same_as_itself r))
+found_registration r (s ∷ rs) (inr there) = or_right (is_same_registration r s) (list_any (is_same_registration r) rs) (found_registration r rs there)
+
+-- how often one is there without the last of another that is there
+times_without_found : (r q : Registration) (rs : List Registration) → list_any (is_same_registration q) rs ≡ true → times_registered r (without_last (Some q) rs) + one_if (is_same_registration r q) ≡ times_registered r rs
+times_without_found r q [] found = absurd cc
+times_without_found r q (s ∷ rs) found =
+    elim (cases_Bool (list_any (is_same_registration q) rs)) [
+      | inl later ↦ let rest = times_without_found r q rs later in rw later (omega (arith, rest))
+      | inr last ↦
+          let here : is_same_registration q s ≡ true = elim (or_cases (is_same_registration q s) (list_any (is_same_registration q) rs) found) [ inl is ↦ is | inr there ↦ absurd (true≢false (sym there ∙ last)) ] in
+          let one = same_other_way r s q (same_registration q s here) in
+          rw last (omega (arith, one))
+    ]
+
+pub times_without : (r q : Registration) (rs : List Registration) → IsIn q rs → times_registered r (without_last (Some q) rs) + one_if (is_same_registration r q) ≡ times_registered r rs
+times_without r q rs there = times_without_found r q rs (found_registration q rs there)

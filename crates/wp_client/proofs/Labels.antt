@@ -26,8 +26,9 @@ use Rattle.wp_client.specs.Fresh.{NamesSeen}
 use Rattle.wp_client.specs.Answers.{IsExplained, Answers, BreaksOff, IsAnswered}
 use Rattle.wp_client.specs.Holdings.{HoldingsState, Holds}
 use Rattle.wp_client.specs.Replies.{refusal}
-use Rattle.wp_client.proofs.Staying.{in_place, holds_still, keeps_holds, broke_off}
+use Rattle.wp_client.proofs.Staying.{in_place, past_more, holds_still, keeps_holds, broke_off}
 use Rattle.wp_client.proofs.Growing.{of_one, progress_still, last_still}
+use Rattle.wp_client.proofs.Noting.{noted_still}
 
 none_some : (r : Reply) → None ≡ Some r → ⊥
 none_some r is = absurd cc
@@ -68,9 +69,10 @@ module _ {D : Type 0} (z : SharedState D) (old new : SeatState) (label : List �
     remembered = tt;
     number = 0;
     after = refl;
-    progress = λ first is_first before k. progress_still first it new.knows.participant (told label n ∷ []) before _ (ap (λ (p : Participant). p.past) goes.participant) (λ due. refl) k (omega (arith, is)) refl refl
-        (λ other known. ⊎_elim (λ (same : label ≡ other). inr (n, inl (inl (ap (λ (l : List ℕ). told l n) same)))) (λ (k : knows_label before.labels other ≡ true). inl k) (known_or_same before.labels label other known));
-    allowed = λ first is_first before k e agrees. let low = last_still first it new.knows.participant before goes.seen k in let high = shorter e.history new.knows.participant.seen agrees.seen in (omega (arith, is, low), omega (arith, is, high));
+    progress = λ first is_first before k. progress_still first old new client.txn client.txn (told label n ∷ []) before _ (ap (λ (p : Participant). p.past) goes.participant) (λ due. refl) k (omega (arith, is)) refl refl
+        (λ other known. ⊎_elim (λ (same : label ≡ other). inr (n, inl (inl (ap (λ (l : List ℕ). told l n) same)))) (λ (k : knows_label before.labels other ≡ true). inl k) (known_or_same before.labels label other known))
+        (noted_still z old new _ goes client.txn (command.Tell label) (reply.Told n) (λ before. refl) (let more = shorter new.knows.participant.seen it.seen goes.seen in omega (arith, is, more)) before k.last k.keys);
+    allowed = λ first is_first before k e agrees. let low = last_still first old client.txn new.knows.participant before goes.seen k in let high = shorter e.history new.knows.participant.seen agrees.seen in (omega (arith, is, low), omega (arith, is, high));
   }
 
   heard_beside : (n : ℕ) → Hears z old label (Ok n) new → Answers z old new client client (command.Hear label) (reply.Heard n)
@@ -88,17 +90,18 @@ module _ {D : Type 0} (z : SharedState D) (old new : SeatState) (label : List �
     remembered = tt;
     number = 0;
     after = refl;
-    progress = λ first is_first before k. progress_still first it new.knows.participant (heard label m ∷ []) before _ (ap (λ (p : Participant). p.past) goes.participant) (λ due. refl) k (omega (arith, is)) refl refl
-        (λ other known. ⊎_elim (λ (same : label ≡ other). inr (m, inr (inl (ap (λ (l : List ℕ). heard l m) same)))) (λ (k : knows_label before.labels other ≡ true). inl k) (known_or_same before.labels label other known));
-    allowed = λ first is_first before k e agrees. let low = last_still first it new.knows.participant before goes.seen k in let high = shorter e.history new.knows.participant.seen agrees.seen in
+    progress = λ first is_first before k. progress_still first old new client.txn client.txn (heard label m ∷ []) before _ (ap (λ (p : Participant). p.past) goes.participant) (λ due. refl) k (omega (arith, is)) refl refl
+        (λ other known. ⊎_elim (λ (same : label ≡ other). inr (m, inr (inl (ap (λ (l : List ℕ). heard l m) same)))) (λ (k : knows_label before.labels other ≡ true). inl k) (known_or_same before.labels label other known))
+        (noted_still z old new _ goes client.txn (command.Hear label) (reply.Heard n) (λ before. refl) (let more = shorter new.knows.participant.seen it.seen goes.seen in omega (arith, is, more)) before k.last k.keys);
+    allowed = λ first is_first before k e agrees. let low = last_still first old client.txn new.knows.participant before goes.seen k in let high = shorter e.history new.knows.participant.seen agrees.seen in
         ((omega (arith, is, low), omega (arith, is, high)), agrees.past (heard label m) (subst (IsIn (heard label m)) (sym (ap (λ (p : Participant). p.past) goes.participant)) (in_last (heard label m) it.past)) n low_m);
   }
 
   pub told_answers : (n : ℕ) → Tells z old label (Ok n) new → IsAnswered z old new client client (command.Tell label) (reply.Told n)
-  told_answers n k = (told_beside n k, λ world stands only first is_first store so. told_alone z first old new only store so (world, stands) client label n k)
+  told_answers n k = (told_beside n k, λ world stands only first is_first store so locks. told_alone z first old new only store so (world, stands) client label n k)
 
   pub heard_answers : (n : ℕ) → Hears z old label (Ok n) new → IsAnswered z old new client client (command.Hear label) (reply.Heard n)
-  heard_answers n k = (heard_beside n k, λ world stands only first is_first store so. heard_alone z first old new only store so (world, stands) client label n k)
+  heard_answers n k = (heard_beside n k, λ world stands only first is_first store so locks. heard_alone z first old new only store so (world, stands) client label n k)
 
   -- nobody told the label, nor did this client hear it
   silent_answers : IsSilent z old label → Keeps z old new → Answers z old new client client (command.Hear label) (reply.Silent label)
@@ -116,7 +119,8 @@ module _ {D : Type 0} (z : SharedState D) (old new : SeatState) (label : List �
     remembered = tt;
     number = 0;
     after = refl;
-    progress = λ first is_first before k. progress_still first it new.knows.participant [] before _ (ap (λ (p : Participant). p.past) goes.participant ∙ sym (append-nil it.past)) (λ due. refl) k (last_still first it new.knows.participant before goes.seen k) refl refl (λ other known. inl known);
+    progress = λ first is_first before k. progress_still first old new client.txn client.txn [] before _ (ap (λ (p : Participant). p.past) goes.participant ∙ sym (append-nil it.past)) (λ due. refl) k (last_still first old client.txn new.knows.participant before goes.seen k) refl refl (λ other known. inl known)
+        (noted_still z old new _ goes client.txn (command.Hear label) (reply.Silent label) (λ before. refl) tt before k.last k.keys);
     allowed = λ first is_first before k e agrees. (
       refl,
       elim (cases_Bool (knows_label before.labels label)) [
@@ -127,7 +131,7 @@ module _ {D : Type 0} (z : SharedState D) (old new : SeatState) (label : List �
   }
 
   pub not_heard_answers : (why : TxnError) → Hears z old label (Err why) new → IsAnswered z old new client client (command.Hear label) (reply.Silent label)
-  not_heard_answers Silent k = (silent_answers k.0 k.1, λ world stands only first is_first store so. silent_alone z first old new only store so (world, stands) client label k)
+  not_heard_answers Silent k = (silent_answers k.0 k.1, λ world stands only first is_first store so locks. silent_alone z first old new only store so (world, stands) client label k)
   not_heard_answers _ c = absurd c
 
   -- nothing but want of memory refuses to tell
@@ -151,11 +155,11 @@ module _ {D : Type 0} (z : SharedState D) (old new : SeatState) (label : List �
 -- what the client has, after either call
 module _ {D : Type 0} (z : SharedState D) (old new : SeatState) (label : List ℕ) (h : HoldingsState) (has : Holds z old h) where
   pub told_holds : (answer : Result ℕ TxnError) → Tells z old label answer new → Holds z new h
-  told_holds (Ok n) (is, goes, were, was) = holds_still z old new _ refl refl refl goes h has
+  told_holds (Ok n) (is, goes, were, was) = holds_still z old new _ refl refl refl goes (past_more _ _) h has
   told_holds (Err Memory) goes = keeps_holds z old new goes h has
   told_holds _ c = absurd c
 
   pub heard_holds : (answer : Result ℕ TxnError) → Hears z old label answer new → Holds z new h
-  heard_holds (Ok n) (is, (m, low, goes, were, was)) = holds_still z old new _ refl refl refl goes h has
+  heard_holds (Ok n) (is, (m, low, goes, were, was)) = holds_still z old new _ refl refl refl goes (past_more _ _) h has
   heard_holds (Err Silent) (silent, goes) = keeps_holds z old new goes h has
   heard_holds _ c = absurd c

@@ -1,12 +1,15 @@
 pub mod Alone
 pub mod Staying
 pub mod Growing
+pub mod Noting
 pub mod Clients
 pub mod GivenUp
 pub mod Fitting
 pub mod Labels
 pub mod Holders
+pub mod Asking
 pub mod Staged
+pub mod Locking
 pub mod Reading
 pub mod Fresh
 pub mod Labelled

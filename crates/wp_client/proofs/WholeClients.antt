@@ -10,7 +10,7 @@ use Rattle.wp_rule.specs.Shows.{WasLast}
 use Rattle.wp_parts.specs.Parts.{content}
 use Rattle.wp_shared.specs.Seats.{SharedState, SeatState, Stands}
 use Rattle.wp_replies.specs.Due.{Store}
-use Rattle.wp_client.specs.Alone.{IsOnly, IsStoreOf, AnswersAlone}
+use Rattle.wp_client.specs.Alone.{IsOnly, IsStoreOf, AreLockedIn, AnswersAlone}
 use Rattle.wp_open_txns.specs.Calls.{Keeps}
 use Rattle.wp_replies.specs.Client.{Client}
 use Rattle.wp_client.specs.declared.holdings.HeldTxn.{HeldTxn}
@@ -53,7 +53,7 @@ module _ {D E : Type 0} (z : SharedState D) (old new : SeatState) (c : Command) 
   -- where the seat stands in this world
   module _ (world : World) (stands : Stands z new world) where
     abbrev pub IsDueHere : Reply → Type 0
-    IsDueHere answer = IsOnly old → (first : InstalledEdit) → WasLast content z.first first → (store : Store) → IsStoreOf z first old.knows.participant store → AnswersAlone z first old new was now c answer store
+    IsDueHere answer = IsOnly old → (first : InstalledEdit) → WasLast content z.first first → (store : Store) → IsStoreOf z first old.knows.participant store → AreLockedIn z old was.txn store → AnswersAlone z first old new was now c answer store
 
     pub by_itself : IfOk r (IsAnswered z old new was now c) → IfOk r IsDueHere
     by_itself = IfOk-weaker r (IsAnswered z old new was now c) IsDueHere (λ answer k. k.1 world stands)

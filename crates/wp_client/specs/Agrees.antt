@@ -13,18 +13,25 @@ use Rattle.wp_shared.specs.Limits.{WasOpenedAt}
 use Rattle.wp_parts.specs.Parts.{content}
 use Rattle.wp_shared.specs.Seats.{SharedState}
 use Rattle.wp_client.specs.Alone.{limits_of}
-use Rattle.wp_replies.specs.Replies.{HasName, HasTaken, HasKey, WritesKey, WasTold, LogStopped, WasFlushed, WasBase, NoneRenewed, OtherCompacted, Evidence, IsKnown, WasUndecided, HadKey, IsHaltedAt}
+use Rattle.wp_replies.specs.Replies.{HasName, HasTaken, HasKey, WasLocked, WritesKey, WasTold, LogStopped, WasFlushed, WasBase, NoneRenewed, OtherCompacted, Evidence, IsKnown, WasUndecided, HadKey, IsHaltedAt}
 
--- another client has the transaction of this name, and the key in it, where one is given; or it writes the key at once
+-- another client has the transaction of this name, and the key in it, where one is given, or took the transaction, for which the key was
+-- held; or it writes the key at once
 abbrev pub IsAnother : Evidence → Option (List ℕ) → Holder → Type 0
 IsAnother e None (holder.Txn name) = IsKnown e (HasName name)
-IsAnother e (Some key) (holder.Txn name) = IsKnown e (HasKey name key) ⊎ (IsKnown e (HasTaken name) × HadKey e.history e.opened name key)
+IsAnother e (Some key) (holder.Txn name) = IsKnown e (HasKey name key) ⊎ (IsKnown e (HasTaken name) × (HadKey e.history e.opened name key ⊎ IsKnown e (WasLocked name key)))
 IsAnother e (Some key) (holder.Client name) = IsKnown e (WritesKey name key)
 IsAnother e None (holder.Client name) = Unit {0}
 
--- A prepare of this name was undecided once so many entries were seen, or later, and had the key, where one is given.
+-- the prepare was made since the opening, and somebody locked the key, where one is given, for the transaction of this name
+abbrev pub IsBeyond : Evidence → ℕ → List ℕ → Option (List ℕ) → Type 0
+IsBeyond e p name None = ⊥
+IsBeyond e p name (Some key) = (e.opened < p) × IsKnown e (WasLocked name key)
+
+-- A prepare of this name was undecided once so many entries were seen, or later, and had the key, where one is given, or somebody locked
+-- it.
 abbrev pub IsPrepares : Evidence → Option (List ℕ) → Holder → ℕ → Type 0
-IsPrepares e key (holder.Txn name) seen = (p : ℕ) × (was : WasUndecided e.history seen name p) × HasKeyAt (take was.at e.history) p key
+IsPrepares e key (holder.Txn name) seen = (p : ℕ) × (was : WasUndecided e.history seen name p) × (HasKeyAt (take was.at e.history) p key ⊎ IsBeyond e p name key)
 IsPrepares e key (holder.Client name) seen = Unit {0}
 
 -- what is known of a holder that was found, of a key or else of a live name, once so many entries were seen

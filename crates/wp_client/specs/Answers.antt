@@ -1,5 +1,6 @@
 -- What the reply to a command says, and what the command leaves of the client's seat.
 use Rattle.std.specs.Prelude.{◌≡◌, ◌⊎◌, ℕ, ◌+◌, ◌≤◌, ◌&&◌, Bool, true, false, List, ◌++◌, length, Option, Some, None, IfSome}
+use Rattle.std.specs.List.{AllByRecursion}
 use Rattle.std.specs.Str.{bytes_eq}
 use Rattle.wp_model.specs.Flushed.{InstalledEdit}
 use Rattle.wp_model.specs.declared.holder.Holder.TheVariants as holder
@@ -9,20 +10,20 @@ use Rattle.wp_text.specs.declared.reply.Reply.TheVariants as reply
 use Rattle.wp_core.specs.Lists.{IsIn, one_if, total}
 use Rattle.wp_core.specs.Sound.Actors.{StartsWith}
 use Rattle.wp_core.specs.Sound.Pasts.{tables_due}
-use Rattle.wp_core.specs.Views.{Event, claimed, took, locked, told, heard, installed, renewed, log_stopped, stopped, based_at, found_edit, found}
-use Rattle.wp_core.specs.World.{Participant, World}
+use Rattle.wp_core.specs.Views.{Event, unchanged, claimed, took, locked, told, heard, installed, renewed, log_stopped, stopped, based_at, found_edit, found}
+use Rattle.wp_core.specs.World.{World}
 use Rattle.wp_rule.specs.Shows.{WasLast}
 use Rattle.wp_parts.specs.Parts.{content}
 use Rattle.wp_shared.specs.Seats.{SharedState, SeatState, Stands}
-use Rattle.wp_replies.specs.declared.client.Txn.{Txn}
+use Rattle.wp_replies.specs.Txn.{Txn, Staged, Open, is_its_key}
 use Rattle.wp_replies.specs.Client.{Client}
 use Rattle.wp_replies.specs.Due.{Store}
 use Rattle.wp_replies.specs.After.{after_reply}
 use Rattle.wp_replies.specs.Kind.{acknowledged, is_fault, is_flushed, is_based, is_compacted, is_tables_fault, is_renewal, stops_log}
 use Rattle.wp_replies.specs.Known.{gets_name, takes_name, stages_key, writes_key, tells}
-use Rattle.wp_replies.specs.Progress.{Progress, knows_label, progress_after}
+use Rattle.wp_replies.specs.Progress.{ToldKey, Progress, knows_label, is_told, progress_after}
 use Rattle.wp_replies.specs.Replies.{Evidence, Allows}
-use Rattle.wp_client.specs.Alone.{log_faults, device_faults, tables_faults, IsOnly, IsStoreOf, AnswersAlone}
+use Rattle.wp_client.specs.Alone.{log_faults, device_faults, tables_faults, IsOnly, IsStoreOf, AreLockedIn, AnswersAlone}
 use Rattle.wp_client.specs.declared.holdings.HeldTxn.{HeldTxn}
 use Rattle.wp_client.specs.Agrees.{Agrees}
 use Rattle.wp_client.specs.Holdings.{txn_of}
@@ -37,12 +38,31 @@ HasLabel past label = (n : ℕ) × (IsIn (told label n) past ⊎ IsIn (heard lab
 abbrev pub HasBase : List Event → ℕ → Type 0
 HasBase past base = (edit : InstalledEdit) × (edit.segment.base ≡ base) × IsIn (renewed edit) past
 
--- what the client knows by its replies is what its seat saw and did
-pub record IsProgress (first : InstalledEdit) (p : Participant) (progress : Progress) : Type 0 where
-  pub last : progress.last ≤ length p.seen
-  pub tables : progress.tables ≡ tables_due first p.past
-  pub base : (progress.base ≡ first.segment.base) ⊎ HasBase p.past progress.base
-  pub labels : (label : List ℕ) → knows_label progress.labels label ≡ true → HasLabel p.past label
+-- The seat noted, of the key of its transaction of this name, that it is unchanged since a number: as many entries were published as it was
+-- locked. So the number is not below what the client had been answered before, nor above what it was answered then, and the seat has seen it.
+pub record IsNoted (s : SeatState) (name : List ℕ) (k : ToldKey) : Type 0 where
+  pub number : ℕ
+  pub noted : IsIn (unchanged name k.key number) s.knows.notes
+  pub told : k.told ≤ number
+  pub behind : IfSome k.behind (λ later. number ≤ later)
+  pub seen : number ≤ length s.knows.participant.seen
+
+-- ... of each of these keys, which all keys of the open transaction are among
+pub record HasNoted (s : SeatState) (own : Staged) (keys : List ToldKey) : Type 0 where
+  pub each : AllByRecursion (IsNoted s own.name) keys
+  pub all : (key : List ℕ) → is_its_key own key ≡ true → is_told keys key ≡ true
+
+abbrev pub AreNoted : SeatState → Txn → List ToldKey → Type 0
+AreNoted s (Open own) keys = HasNoted s own keys
+AreNoted s other keys = Unit {0}
+
+-- what the client, in this state of its transaction, knows by its replies is what its seat saw, did and noted
+pub record IsProgress (first : InstalledEdit) (s : SeatState) (txn : Txn) (progress : Progress) : Type 0 where
+  pub last : progress.last ≤ length s.knows.participant.seen
+  pub tables : progress.tables ≡ tables_due first s.knows.participant.past
+  pub base : (progress.base ≡ first.segment.base) ⊎ HasBase s.knows.participant.past progress.base
+  pub labels : (label : List ℕ) → knows_label progress.labels label ≡ true → HasLabel s.knows.participant.past label
+  pub keys : AreNoted s txn progress.keys
 
 -- there is a reply, of this kind
 abbrev pub is_answer : (Reply → Bool) → Option Reply → Bool
@@ -114,11 +134,11 @@ pub record Answers {D : Type 0} (z : SharedState D) (old new : SeatState) (was n
   pub remembered : IsRemembered events answer
   pub number : ℕ  -- of the prepare that `took` gives
   pub after : now ≡ after_reply number was command answer
-  pub progress : (first : InstalledEdit) → WasLast content z.first first → (before : Progress) → IsProgress first old.knows.participant before → IsProgress first new.knows.participant (progress_after before command answer)
-  pub allowed : (first : InstalledEdit) → WasLast content z.first first → (before : Progress) → IsProgress first old.knows.participant before → (e : Evidence) → Agrees e z new.knows.participant → Allows e before was number command answer
+  pub progress : (first : InstalledEdit) → WasLast content z.first first → (before : Progress) → IsProgress first old was.txn before → IsProgress first new now.txn (progress_after before command answer)
+  pub allowed : (first : InstalledEdit) → WasLast content z.first first → (before : Progress) → IsProgress first old was.txn before → (e : Evidence) → Agrees e z new.knows.participant → Allows e before was number command answer
 
 -- Memory was wanting, so that the command has no reply. The seat published nothing, met no fault and found nothing, and what its
--- past has more is explained by the command alone: the key of a direct write was locked, and is free again.
+-- past has more is explained by the command alone: a key was locked, for a direct write or to be read, and is free again.
 pub record BreaksOff (old new : SeatState) (was : Client) (command : Command) : Type 0 where
   pub stays : Stays old new
   pub own : new.knows.participant.own ≡ old.knows.participant.own
@@ -134,7 +154,7 @@ pub record BreaksOff (old new : SeatState) (was : Client) (command : Command) : 
 -- be then.
 abbrev pub IsDueAlone : {D : Type 0} → SharedState D → SeatState → SeatState → Client → Client → Command → Reply → Type 0
 IsDueAlone z old new was now command answer =
-    IsOnly old → (first : InstalledEdit) → WasLast content z.first first → (store : Store) → IsStoreOf z first old.knows.participant store → AnswersAlone z first old new was now command answer store
+    IsOnly old → (first : InstalledEdit) → WasLast content z.first first → (store : Store) → IsStoreOf z first old.knows.participant store → AreLockedIn z old was.txn store → AnswersAlone z first old new was now command answer store
 
 -- ... where the seat stands in a world of the store now
 abbrev pub IsDue : {D : Type 0} → SharedState D → SeatState → SeatState → Client → Client → Command → Reply → Type 0

@@ -1,5 +1,6 @@
 -- What a client has between two of its commands, and that its seat has just this.
-use Rattle.std.specs.Prelude.{◌≡◌, ℕ, Bool, false, List, [], ◌∷◌, length, map, None}
+use Rattle.std.specs.Prelude.{◌≡◌, ℕ, ◌+◌, Bool, false, List, [], ◌∷◌, length, map, Option, Some, None}
+use Rattle.std.specs.Option.{option_map}
 use Rattle.std.specs.Str.{bytes_eq}
 use Rattle.std.specs.FinMap as finite
 use Rattle.wp_core.specs.Changes.{is_same_registration}
@@ -8,9 +9,7 @@ use Rattle.wp_core.specs.Reading.{Registration}
 use Rattle.wp_shared.specs.Seats.{SharedState, SeatState, IsFree}
 use Rattle.wp_open_txns.specs.Txn.{OpenState, HasOpen, HasPrepared}
 use Rattle.wp_replies.specs.declared.client.LabelledSnapshot.{LabelledSnapshot}
-use Rattle.wp_replies.specs.declared.client.Staged.{Staged}
-use Rattle.wp_replies.specs.declared.client.Txn.{Txn}
-use Rattle.wp_replies.specs.declared.client.Txn.TheVariants.{Idle, Open, Prepared}
+use Rattle.wp_replies.specs.Txn.{Staged, Txn, Idle, Open, Prepared}
 use Rattle.wp_replies.specs.Client.{Client, number_of, AreWithin}
 use Rattle.wp_client.specs.declared.holdings.HeldTxn.{HeldTxn}
 use Rattle.wp_client.specs.declared.holdings.HeldTxn.TheVariants as held
@@ -27,7 +26,7 @@ no_holdings = record { txn = held.Idle; snapshots = [] }
 -- ---- as the table of replies sees it
 
 abbrev pub staged_of : OpenState → Staged
-staged_of t = record { name = t.name; batch = t.batch }
+staged_of t = record { name = t.name; batch = t.batch; locked = t.locked; pin = option_map (λ r. r.number) t.pin }
 
 abbrev pub txn_of : HeldTxn → Txn
 txn_of held.Idle = Idle
@@ -60,6 +59,16 @@ times_registered r registered = total (λ s. one_if (is_same_registration r s)) 
 abbrev pub snapshot_of : HeldSnapshot → Registration
 snapshot_of s = s.snapshot
 
+-- the registration, if there is one
+abbrev pub registration_if : Option Registration → List Registration
+registration_if None = []
+registration_if (Some r) = r ∷ []
+
+-- the pin of an open transaction
+abbrev pub pin_in : HeldTxn → Option Registration
+pin_in (held.Open t) = t.pin
+pin_in other = None
+
 -- no label is there twice
 abbrev pub AreDistinct : List LabelledSnapshot → Type 0
 AreDistinct [] = Unit {0}
@@ -72,10 +81,10 @@ pub record HoldsTxn {D : Type 0} (z : SharedState D) (s : SeatState) (t : HeldTx
   pub has : HasTxn s t
   pub only : (name : List ℕ) → is_named t name ≡ false → finite.get s.knows.participant.transactions name ≡ None
 
--- Just the client's snapshots are registered too. Their numbers are those of entries that the seat has seen.
+-- Just the client's snapshots are registered too, and its transaction's pin. Their numbers are those of entries that the seat has seen.
 pub record Holds {D : Type 0} (z : SharedState D) (s : SeatState) (h : HoldingsState) : Type 0 where
   pub txn : HoldsTxn z s h.txn
-  pub registered : (r : Registration) → times_registered r s.knows.participant.registered ≡ times_registered r (map snapshot_of h.snapshots)
+  pub registered : (r : Registration) → times_registered r s.knows.participant.registered ≡ times_registered r (map snapshot_of h.snapshots) + times_registered r (registration_if (pin_in h.txn))
   pub within : AreWithin (length s.knows.participant.seen) (map labelled h.snapshots)
   pub distinct : AreDistinct (map labelled h.snapshots)
 

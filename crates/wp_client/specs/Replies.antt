@@ -1,21 +1,17 @@
 -- What the calls of the crates below come to as replies.
-use Rattle.std.specs.Prelude.{◌≡◌, ℕ, ◌≤◌, List, [], ◌∷◌, ◌++◌, length, map, Option, Some, None}
+use Rattle.std.specs.Prelude.{◌≡◌, ℕ, List, [], ◌∷◌, ◌++◌, length, map, Option, Some, None}
 use Rattle.wp_model.specs.declared.change.Change.{Change}
 use Rattle.wp_model.specs.declared.change.Change.TheVariants as change
-use Rattle.wp_model.specs.History.{value_at}
 use Rattle.wp_text.specs.declared.script.Command.{Command}
 use Rattle.wp_text.specs.declared.script.Command.TheVariants as command
 use Rattle.wp_text.specs.declared.reply.Reply.{Reply}
 use Rattle.wp_text.specs.declared.reply.Reply.TheVariants as reply
-use Rattle.wp_shared.specs.Seats.{SharedState, SeatState}
-use Rattle.wp_open_txns.specs.Calls.{Keeps}
 use Rattle.wp_open_txns.specs.declared.error.TxnError.{TxnError}
 use Rattle.wp_open_txns.specs.declared.error.TxnError.TheVariants as why
 use Rattle.wp_replies.specs.Client.{number_of}
 use Rattle.wp_client.specs.declared.holdings.HeldTxn.{HeldTxn}
 use Rattle.wp_client.specs.declared.holdings.HeldTxn.TheVariants as held
 use Rattle.wp_client.specs.declared.holdings.HeldSnapshot.{HeldSnapshot}
-use Rattle.wp_client.specs.Fresh.{WasPublished}
 use Rattle.wp_client.specs.Holdings.{labelled}
 
 -- what a refusal is answered: nothing where memory was wanting; that a label is silent is answered with the label
@@ -24,6 +20,7 @@ refusal why.Memory = None
 refusal (why.Taken name) = Some (reply.Taken name)
 refusal (why.Busy holder) = Some (reply.Busy holder)
 refusal why.TooMany = Some reply.TooMany
+refusal (why.Conflict n) = Some (reply.Conflict n)
 refusal why.Silent = None
 refusal (why.Unknown name at) = Some (reply.Unknown name at)
 refusal (why.InUse name) = Some (reply.InUse name)
@@ -55,14 +52,6 @@ abbrev pub own_reply : Option (Option (List ℕ)) → Option Reply
 own_reply None = None
 own_reply (Some None) = Some reply.MissingOwn
 own_reply (Some (Some value)) = Some (reply.GotOwn value)
-
--- The value of the key at a number that was published while the call ran. The seat is as it was but for what it has seen.
-pub record ReadsFresh {D : Type 0} (z : SharedState D) (old new : SeatState) (key : List ℕ) (value : Option (List ℕ)) (at : ℕ) : Type 0 where
-  pub goes_on : Keeps z old new
-  pub fresh : length old.knows.participant.seen ≤ at
-  pub within : at ≤ length new.knows.participant.seen
-  pub published : WasPublished z old new at
-  pub value_is : value ≡ value_at new.knows.participant.seen key at
 
 -- ---- snapshots
 

@@ -15,8 +15,8 @@
 //! alone: `specs/Alone.antt` says what that store is, `laws` has two laws of it, and `proofs/Alone` a lemma for each outcome of
 //! each call.
 //!
-//! The commands here read, take snapshots and free them, begin and take transactions and change an open one, and tell and hear;
-//! and a session ends. Those that make entries or tables are of `wp_answers`, which picks among all.
+//! The commands here read, take snapshots and free them, begin and take transactions, pin and change an open one and lock keys for it,
+//! and tell and hear; and a session ends. Those that make entries or tables are of `wp_answers`, which picks among all.
 #![tactic(auto)]
 
 mod board;
@@ -24,6 +24,7 @@ mod ending;
 mod holdings;
 pub mod laws;
 mod naming;
+mod pinning;
 mod reads;
 mod refusals;
 mod snapshots;
@@ -33,6 +34,7 @@ pub use board::{hear, tell};
 pub use ending::end;
 pub use holdings::{HeldSnapshot, HeldTxn, Holdings};
 pub use naming::{begin, take};
+pub use pinning::{lock, pin};
 pub use reads::{get, get_at};
 pub use refusals::refusal;
 pub use snapshots::{free, snap};

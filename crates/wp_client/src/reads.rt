@@ -1,5 +1,5 @@
 //! Reads. What the client's own transaction says of a key comes first, and else what a snapshot shows.
-ghost use Rattle.std.specs.Prelude.{◌≡◌, [], MatchOption, IfOk, OnErr};
+ghost use Rattle.std.specs.Prelude.{◌≡◌, [], MatchOption, IfOk};
 ghost use Rattle.wp_model.specs.Batch.{change_to};
 ghost use Rattle.wp_shared.specs.Seats.{IsFree};
 ghost use Rattle.wp_text.specs.declared.script.Command.TheVariants.{Get, GetAt};
@@ -8,14 +8,13 @@ ghost use Rattle.wp_replies.specs.Plan as plans;
 ghost use Rattle.wp_client.specs.Answers.{AnswersFrom, IsAnswered};
 ghost use Rattle.wp_client.specs.Fresh.{NamesSeen};
 ghost use Rattle.wp_client.specs.Holdings.{client_of, HoldsTxn, Holds};
-ghost use Rattle.wp_client.specs.Replies.{batch_in, own_reply, ReadsFresh};
+ghost use Rattle.wp_client.specs.Replies.{batch_in, own_reply};
 
 use crate::holdings::{HeldTxn, Holdings};
 use std::alloc::{AllocError, Global};
 use std::sync::Wait;
 use wp_model::{Batch, Key, Name, Seq, Value};
 use wp_outside::Disk;
-use wp_read::Begun;
 use wp_shared::{Seat, Shared};
 use wp_text::Reply;
 
@@ -30,13 +29,10 @@ fn batch_of(txn: &HeldTxn) -> Option<&Batch>
     }
 }
 
-/// What the transaction itself says of the key.
-fn own_reply(alloc: Global, txn: &HeldTxn, key: &Key) -> Result<Option<Reply>, AllocError>
-    ensures { IfOk result (λ said. said ≡ own_reply (change_to (batch_in txn.now) key.now)) }
+/// What the changes say of the key.
+pub(crate) fn said_in(alloc: Global, batch: &Batch, key: &Key) -> Result<Option<Reply>, AllocError>
+    ensures { IfOk result (λ said. said ≡ own_reply (change_to batch.now key.now)) }
 {
-    let Some(batch) = batch_of(txn) else {
-        return Ok(None);
-    };
     match batch.get(key) {
         Some(Some(value)) => Ok(Some(Reply::GotOwn(value.copy(alloc)?))),
         Some(None) => Ok(Some(Reply::MissingOwn)),
@@ -44,35 +40,24 @@ fn own_reply(alloc: Global, txn: &HeldTxn, key: &Key) -> Result<Option<Reply>, A
     }
 }
 
+/// What the transaction itself says of the key.
+fn own_reply(alloc: Global, txn: &HeldTxn, key: &Key) -> Result<Option<Reply>, AllocError>
+    ensures { IfOk result (λ said. said ≡ own_reply (change_to (batch_in txn.now) key.now)) }
+{
+    match batch_of(txn) {
+        Some(batch) => said_in(alloc, batch, key),
+        None => Ok(None),
+    }
+}
+
 /// The value, with the number that it is read at.
-fn read_reply(value: Option<Value>, at: Seq) -> Reply
+pub(crate) fn read_reply(value: Option<Value>, at: Seq) -> Reply
     ensures { result ≡ plans.read_reply value at }
 {
     match value {
         Some(value) => Reply::Got(value, at),
         None => Reply::Missing(at),
     }
-}
-
-/// The value of the key as it is now, and the number of the last entry that it is of.
-fn read_fresh<D: Disk + Drop, R: Wait>(
-    store: &Shared<D>,
-    rt: &R,
-    seat: &mut Seat<D>,
-    key: &Key,
-) -> Result<(Option<Value>, Seq), AllocError>
-    requires { IsFree store.now.table seat.old }
-    ensures read { IfOk result (λ read. ReadsFresh store.now seat.old seat.new key.now read.0 read.1) }
-    ensures refused { OnErr result (Keeps store.now seat.old seat.new) }
-{
-    let snapshot = match wp_read::begin_read(store, rt, seat, key)? {
-        Begun::Read(value, at) => return Ok((value, at)),
-        Begun::Registered(snapshot) => snapshot,
-    };
-    let at = snapshot.number();
-    let outcome = wp_read::get(store, rt, seat, key, &snapshot);
-    wp_read::release(store, rt, seat, snapshot);
-    Ok((outcome?, at))
 }
 
 /// Reads the key as it is now.
@@ -92,7 +77,7 @@ pub fn get<D: Disk + Drop, R: Wait>(
     if let Some(said) = own_reply(alloc, txn, key)? {
         return Ok(said);
     }
-    let (value, at) = read_fresh(store, rt, seat, key)?;
+    let (value, at) = wp_read::get_now(store, rt, seat, key)?;
     Ok(read_reply(value, at))
 }
 

@@ -19,6 +19,7 @@ pub fn refusal(why: TxnError) -> Result<Reply, AllocError>
         TxnError::Taken(name) => Ok(Reply::Taken(name)),
         TxnError::Busy(holder) => Ok(Reply::Busy(holder)),
         TxnError::TooMany => Ok(Reply::TooMany),
+        TxnError::Conflict(number) => Ok(Reply::Conflict(number)),
         TxnError::Unknown { name, at } => Ok(Reply::Unknown { name, at }),
         TxnError::InUse(name) => Ok(Reply::InUse(name)),
         TxnError::NumbersFull { published, limit } => Ok(Reply::Full { published, limit }),

@@ -1,6 +1,5 @@
 //! An open transaction takes a change in.
-ghost use Rattle.std.specs.Prelude.{◌≡◌, true, IfOk, OnErr};
-ghost use Rattle.wp_model.specs.Batch.{is_batch};
+ghost use Rattle.std.specs.Prelude.{IfOk, OnErr};
 ghost use Rattle.wp_client.specs.declared.holdings.HeldTxn.TheVariants as held;
 ghost use Rattle.wp_client.specs.Answers.{AnswersFrom, BreaksOffFrom};
 ghost use Rattle.wp_client.specs.Holdings.{HoldsTxn, HoldsFrom};
@@ -14,13 +13,6 @@ use wp_open_txns::OpenTxn;
 use wp_outside::Disk;
 use wp_shared::{Seat, Shared};
 use wp_text::Reply;
-
-/// For the proof alone: no more keys are changed than may be, each once, in order.
-fn shows_batch(txn: &OpenTxn)
-    ensures { is_batch txn.now.batch ≡ true }
-{
-    let _ = txn.batch().changes();
-}
 
 /// Takes the change into the open transaction.
 pub fn stage<D: Disk + Drop, R: Wait>(
@@ -36,7 +28,6 @@ pub fn stage<D: Disk + Drop, R: Wait>(
     ensures answered { IfOk result (AnswersFrom store.now seat.old seat.new (held.Open txn.old) (held.Open txn.new) (asking change)) }
     ensures err { OnErr result (BreaksOffFrom seat.old seat.new (held.Open txn.old) (held.Open txn.new) (asking change)) }
 {
-    shows_batch(txn);
     match wp_open_txns::stage(store, rt, alloc, seat, txn, change) {
         Ok(()) => Ok(Reply::Held),
         Err(why) => refusal(why),

@@ -1,5 +1,5 @@
 -- The rows look at nothing from below the base of the log that the store was opened from.
-use Rattle.std.proofs.Common.{◌≡◌, ℕ, suc, ◌-◌, ◌<◌, ◌≤◌, ◌||◌, Bool, true, false, ◌==◌, eq-eqb, List, [], ◌∷◌, ◌++◌, length, take, drop, Option, Some, refl, sym, ap, ◌∙◌, subst, inl, inr, arith}
+use Rattle.std.proofs.Common.{◌≡◌, ℕ, suc, ◌-◌, ◌<◌, ◌≤◌, ◌||◌, Bool, true, false, ◌==◌, eq-eqb, List, [], ◌∷◌, ◌++◌, length, take, drop, Option, Some, None, refl, sym, ap, ◌∙◌, subst, inl, inr, arith}
 use Rattle.std.specs.Prelude.{IfSome, min}
 use Rattle.std.specs.List.{AllByRecursion, list_any}
 use Rattle.std.specs.Str.{bytes_eq}
@@ -10,6 +10,7 @@ use Rattle.wp_model.specs.declared.version.Version.{Version}
 use Rattle.wp_model.specs.declared.holder.Holder.{Holder}
 use Rattle.wp_model.specs.declared.holder.Holder.TheVariants as holder
 use Rattle.wp_model.specs.Batch.{change_to}
+use Rattle.wp_model.specs.Changed.{conflict}
 use Rattle.wp_model.specs.Decision.{entry_version, decision_in, is_by, is_committed}
 use Rattle.wp_model.specs.Flushed.{InstalledEdit}
 use Rattle.wp_model.specs.History.{entry_at, prepared_name, prepared_batch, is_changed, value_at}
@@ -26,13 +27,13 @@ use Rattle.wp_text.specs.declared.script.Command.TheVariants as command
 use Rattle.wp_text.specs.declared.reply.Reply.{Reply}
 use Rattle.wp_text.specs.declared.reply.Reply.TheVariants as reply
 use Rattle.wp_replies.specs.declared.client.LabelledSnapshot.{LabelledSnapshot}
-use Rattle.wp_replies.specs.declared.client.Txn.{Txn}
-use Rattle.wp_replies.specs.declared.client.Txn.TheVariants.{Idle, Open, Prepared}
+use Rattle.wp_replies.specs.Txn.{Txn, Staged, Idle, Open, Prepared, is_its_key}
 use Rattle.wp_replies.specs.Alike.{HasEach, IsLike, TxnIsFrom, AreFrom, IsFrom}
 use Rattle.wp_replies.specs.Client.{Client, number_of}
-use Rattle.wp_replies.specs.Progress.{Progress}
-use Rattle.wp_replies.specs.Replies.{Evidence, IsFresh, IsLoggedAt, WasUndecided, HadKey, IsBusy, IsNameTaken, OwnSays, PreparesAt, CommitsAt, RollsBackAt, IsFlushCount, IsCompactionCount, RenewsSomething, HasNothingToFlush, FailsFlush, FailsCompaction, FailsRenewal, Condition}
+use Rattle.wp_replies.specs.Progress.{ToldKey, Progress}
+use Rattle.wp_replies.specs.Replies.{Evidence, IsFresh, IsLoggedAt, WasUndecided, HadKey, WasPreparedSince, IsBusy, IsNameTaken, OwnSays, ConflictsAt, IsKept, AreKept, IsValidated, KeepsKeys, PreparesAt, CommitsAt, RollsBackAt, IsFlushCount, IsCompactionCount, RenewsSomething, HasNothingToFlush, FailsFlush, FailsCompaction, FailsRenewal, Condition}
 use Rattle.wp_replies.specs.Tables.{unflushed, after_flush, listed, retained, after_compaction, with_table, after_renewal}
+use Rattle.wp_replies.proofs.Conditions.{entry_within}
 
 -- ---- snapshots
 
@@ -102,10 +103,15 @@ module _ (e : Evidence) (other : List Entry) (k : IsLike e other) where
       let from : e.base ≤ was.at = omega (arith, low, was.fresh.0) in
       (p, was_other last name p low was, ap (λ (x : Option Entry). is_changed (prepared_batch x) key) (sym (a.prepared p was.at from was.fresh.1 was.undecided)) ∙ changed)
 
+  prepared_other : (last : ℕ) (name : List ℕ) → e.base ≤ last → WasPreparedSince e last name → WasPreparedSince with_other last name
+  prepared_other last name low (p, was, behind) = (p, was_other last name p low was, behind)
+
   busy_other : (last : ℕ) (key : List ℕ) (by : Holder) → e.base ≤ last → IsBusy e last key by → IsBusy with_other last key by
   busy_other last key (holder.Txn name) low (inl had) = inl (had_other last name key low had)
   busy_other last key (holder.Txn name) low (inr (inl claim)) = inr (inl claim)
-  busy_other last key (holder.Txn name) low (inr (inr (claim, has))) = inr (inr (claim, had_other e.opened name key k.opened has))
+  busy_other last key (holder.Txn name) low (inr (inr (inl (claim, has)))) = inr (inr (inl (claim, had_other e.opened name key k.opened has)))
+  busy_other last key (holder.Txn name) low (inr (inr (inr (claim, inl was)))) = inr (inr (inr (claim, inl (prepared_other last name low was))))
+  busy_other last key (holder.Txn name) low (inr (inr (inr (claim, inr took)))) = inr (inr (inr (claim, inr took)))
   busy_other last key (holder.Client name) low claim = claim
 
   taken_other : (last : ℕ) (name : List ℕ) → e.base ≤ last → IsNameTaken e last name → IsNameTaken with_other last name
@@ -125,14 +131,70 @@ module _ (e : Evidence) (other : List Entry) (k : IsLike e other) where
   value_other : (key : List ℕ) (n : ℕ) (value : Option (List ℕ)) → e.base ≤ n → n ≤ length e.history → value_at e.history key n ≡ value → value_at other key n ≡ value
   value_other key n value low high is = sym (a.whole.values key n low high) ∙ is
 
-  prepares_other : (last : ℕ) (txn : Txn) (n : ℕ) → e.base ≤ last → PreparesAt e.history last txn n → PreparesAt other last txn n
-  prepares_other last (Open own) n low l = logged_other last n _ low l
-  prepares_other last _ n low l = absurd l
+  -- ---- keys
 
-  commits_other : (last : ℕ) (txn : Txn) (n : ℕ) → e.base ≤ last → CommitsAt e.history last txn n → CommitsAt other last txn n
-  commits_other last Idle n low l = absurd l
-  commits_other last (Open own) n low l = logged_other last n _ low l
-  commits_other last (Prepared p) n low l = logged_other last n _ low l
+  -- what changed a key last, above a number from the base on
+  conflict_other : (key : List ℕ) (from n : ℕ) (last : Option ℕ) → e.base ≤ from → n ≤ length e.history → conflict (take n e.history) key from ≡ last → conflict (take n other) key from ≡ last
+  conflict_other key from n last low high is = sym (a.conflicts key from n low high) ∙ is
+
+  pin_from : (own : Staged) (pin : ℕ) → TxnIsFrom e.base e.history (Open own) → own.pin ≡ Some pin → e.base ≤ pin
+  pin_from own pin from is = subst (λ (o : Option ℕ). IfSome o (λ m. e.base ≤ m)) is from
+
+  conflicts_other : (last : ℕ) (txn : Txn) (key : List ℕ) (n : ℕ) → TxnIsFrom e.base e.history txn → ConflictsAt e.history last txn key n → ConflictsAt other last txn key n
+  conflicts_other last (Open own) key n from (new, was) = (
+    new,
+    record {
+      at = was.at;
+      fresh = fresh_other last was.at was.fresh;
+      pin = was.pin;
+      pinned = was.pinned;
+      changed = conflict_other key was.pin was.at (Some n) (pin_from own was.pin from was.pinned) was.fresh.1 was.changed;
+    },
+  )
+  conflicts_other last Idle key n from c = absurd c
+  conflicts_other last (Prepared p) key n from c = absurd c
+
+  module _ (n : ℕ) (high : n ≤ length e.history) where
+    kept_other : (x : ToldKey) → e.base ≤ x.told → IsKept (take n e.history) x → IsKept (take n other) x
+    kept_other x low kept = record {
+      since = kept.since;
+      told = kept.told;
+      behind = kept.behind;
+      unchanged = let told = kept.told in conflict_other x.key kept.since n None (omega (arith, low, told)) high kept.unchanged;
+    }
+
+    all_kept_other : (keys : List ToldKey) → AllByRecursion (λ x. e.base ≤ x.told) keys → AreKept (take n e.history) keys → AreKept (take n other) keys
+    all_kept_other [] low kept = tt
+    all_kept_other (x ∷ keys) low kept = (kept_other x low.0 kept.0, all_kept_other keys low.1 kept.1)
+
+    validated_other : (own : Staged) → TxnIsFrom e.base e.history (Open own) → IsValidated (take n e.history) own → IsValidated (take n other) own
+    validated_other own from valid = by own.pin from valid
+      where
+        by : (pin : Option ℕ) → IfSome pin (λ m. e.base ≤ m) → IfSome pin (λ m. (key : List ℕ) → is_its_key own key ≡ true → conflict (take n e.history) key m ≡ None) → IfSome pin (λ m. (key : List ℕ) → is_its_key own key ≡ true → conflict (take n other) key m ≡ None)
+        by None low none = tt
+        by (Some m) low none = λ key its. conflict_other key m n None low high (none key its)
+
+    keeps_other : (own : Staged) (keys : List ToldKey) → TxnIsFrom e.base e.history (Open own) → AllByRecursion (λ x. e.base ≤ x.told) keys → KeepsKeys (take n e.history) own keys → KeepsKeys (take n other) own keys
+    keeps_other own keys from low k = record { all = k.all; kept = all_kept_other keys low k.kept; validated = validated_other own from k.validated }
+
+  keeps_before : (last n : ℕ) (x : Entry) (own : Staged) (keys : List ToldKey) → IsLoggedAt e.history last n x → TxnIsFrom e.base e.history (Open own) → AllByRecursion (λ y. e.base ≤ y.told) keys → KeepsKeys (take (n - 1) e.history) own keys → KeepsKeys (take (n - 1) other) own keys
+  keeps_before last n x own keys l from low kept = let within = entry_within e.history n x l.1 in keeps_other (n - 1) (omega (arith, within)) own keys from low kept
+
+  prepares_other : (progress : Progress) (client : Client) (n : ℕ) → IsFrom e.base e.history progress client → PreparesAt e.history progress client.txn n → PreparesAt other progress client.txn n
+  prepares_other progress client n f l = by client.txn f.txn l
+    where
+      by : (txn : Txn) → TxnIsFrom e.base e.history txn → PreparesAt e.history progress txn n → PreparesAt other progress txn n
+      by (Open own) from (logged, kept) = (logged_other progress.last n _ f.last logged, keeps_before progress.last n _ own progress.keys logged from f.keys kept)
+      by Idle from l = absurd l
+      by (Prepared p) from l = absurd l
+
+  commits_other : (progress : Progress) (client : Client) (n : ℕ) → IsFrom e.base e.history progress client → CommitsAt e.history progress client.txn n → CommitsAt other progress client.txn n
+  commits_other progress client n f l = by client.txn f.txn l
+    where
+      by : (txn : Txn) → TxnIsFrom e.base e.history txn → CommitsAt e.history progress txn n → CommitsAt other progress txn n
+      by Idle from l = absurd l
+      by (Open own) from (logged, kept) = (logged_other progress.last n _ f.last logged, keeps_before progress.last n _ own progress.keys logged from f.keys kept)
+      by (Prepared p) from l = logged_other progress.last n _ f.last l
 
   rolls_other : (last : ℕ) (txn : Txn) (n : ℕ) → e.base ≤ last → RollsBackAt e.history last txn n → RollsBackAt other last txn n
   rolls_other last (Prepared p) n low (closed, (batch, undone)) = (logged_other last n _ low closed, (batch, logged_other last (n - 1) _ low undone))
@@ -238,16 +300,18 @@ module _ (e : Evidence) (other : List Entry) (k : IsLike e other) where
   snapshot_from : (client : Client) (label : List ℕ) (n : ℕ) → AreFrom e.base client.snapshots → number_of client.snapshots label ≡ Some n → e.base ≤ n
   snapshot_from client label n from is = subst (λ (o : Option ℕ). IfSome o (λ m. e.base ≤ m)) is (number_from e.base client.snapshots label from)
 
-  pub condition_other : (progress : Progress) (client : Client) (p : ℕ) (c : Command) (r : Reply) → IsFrom e.base e.history progress.last client → Condition e progress client p c r → Condition with_other progress client p c r
+  pub condition_other : (progress : Progress) (client : Client) (p : ℕ) (c : Command) (r : Reply) → IsFrom e.base e.history progress client → Condition e progress client p c r → Condition with_other progress client p c r
   condition_other progress client p c (reply.Full published most) f k = (k.0, fresh_other progress.last published k.1, k.2, k.3)
   condition_other progress client p c reply.FaultLog f k = (k.0, renews_other c k.1)
   condition_other progress client p c (reply.Stopped n) f k = (k.0, fresh_other progress.last n k.1, k.2)
   condition_other progress client p (command.Put key value) (reply.Put n) f k = (k.0, logged_other progress.last n _ f.last k.1)
   condition_other progress client p (command.Put key value) reply.Held f k = k
-  condition_other progress client p (command.Put key value) (reply.Busy holder) f k = busy_other progress.last key holder f.last k
+  condition_other progress client p (command.Put key value) (reply.Busy holder) f k = (k.0, busy_other progress.last key holder f.last k.1)
+  condition_other progress client p (command.Put key value) (reply.Conflict n) f k = conflicts_other progress.last client.txn key n f.txn k
   condition_other progress client p (command.Del key) (reply.Del n) f k = (k.0, logged_other progress.last n _ f.last k.1)
   condition_other progress client p (command.Del key) reply.Held f k = k
-  condition_other progress client p (command.Del key) (reply.Busy holder) f k = busy_other progress.last key holder f.last k
+  condition_other progress client p (command.Del key) (reply.Busy holder) f k = (k.0, busy_other progress.last key holder f.last k.1)
+  condition_other progress client p (command.Del key) (reply.Conflict n) f k = conflicts_other progress.last client.txn key n f.txn k
   condition_other progress client p (command.Get key) (reply.Got value n) f k = (own_other client.txn key _ f.txn k.0, fresh_other progress.last n k.1, value_other key n _ (let low = f.last in omega (arith, low, k.1.0)) k.1.1 k.2)
   condition_other progress client p (command.Get key) (reply.Missing n) f k = (own_other client.txn key _ f.txn k.0, fresh_other progress.last n k.1, value_other key n _ (let low = f.last in omega (arith, low, k.1.0)) k.1.1 k.2)
   condition_other progress client p (command.Get key) (reply.GotOwn value) f k = own_other client.txn key _ f.txn k
@@ -258,8 +322,15 @@ module _ (e : Evidence) (other : List Entry) (k : IsLike e other) where
   condition_other progress client p (command.Free label) reply.Freed f k = k
   condition_other progress client p (command.Begin name) reply.Begun f k = k
   condition_other progress client p (command.Begin name) (reply.Taken other) f k = (k.0, taken_other progress.last name f.last k.1)
-  condition_other progress client p command.Prepare (reply.Prepared n) f k = prepares_other progress.last client.txn n f.last k
-  condition_other progress client p command.Commit (reply.Committed n) f k = commits_other progress.last client.txn n f.last k
+  condition_other progress client p command.Pin (reply.Pinned n) f k = fresh_other progress.last n k
+  condition_other progress client p (command.Lock key) (reply.Got value n) f k = (own_other client.txn key _ f.txn k.0, fresh_other progress.last n k.1, value_other key n _ (let low = f.last in omega (arith, low, k.1.0)) k.1.1 k.2)
+  condition_other progress client p (command.Lock key) (reply.Missing n) f k = (own_other client.txn key _ f.txn k.0, fresh_other progress.last n k.1, value_other key n _ (let low = f.last in omega (arith, low, k.1.0)) k.1.1 k.2)
+  condition_other progress client p (command.Lock key) (reply.GotOwn value) f k = own_other client.txn key _ f.txn k
+  condition_other progress client p (command.Lock key) reply.MissingOwn f k = own_other client.txn key _ f.txn k
+  condition_other progress client p (command.Lock key) (reply.Busy holder) f k = (k.0, busy_other progress.last key holder f.last k.1)
+  condition_other progress client p (command.Lock key) (reply.Conflict n) f k = conflicts_other progress.last client.txn key n f.txn k
+  condition_other progress client p command.Prepare (reply.Prepared n) f k = prepares_other progress client n f k
+  condition_other progress client p command.Commit (reply.Committed n) f k = commits_other progress client n f k
   condition_other progress client p command.Rollback reply.Dropped f k = k
   condition_other progress client p command.Rollback (reply.RolledBack n) f k = rolls_other progress.last client.txn n f.last k
   condition_other progress client p command.Leave reply.Left f k = k

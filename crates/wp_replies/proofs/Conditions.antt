@@ -1,7 +1,8 @@
--- The rows of the table stay true as the history grows, and as more is known of the other clients.
+-- The rows of the table stay true as the history grows, where what was known of the other clients is known still.
 use Rattle.std.proofs.Common.{◌≡◌, ℕ, zero, suc, ◌-◌, ◌≤◌, Bool, true, List, [], ◌∷◌, ◌++◌, length, take, Option, Some, None, refl, sym, ap, ◌∙◌, subst, arith, length-append, inl, inr}
 use Rattle.std.specs.Prelude.{slice_get, IfSome}
 use Rattle.std.proofs.lemmas.List.{take-append-le}
+use Rattle.std.proofs.lemmas.Option.{slice_get_within}
 use Rattle.wp_model.specs.declared.entry.Entry.{Entry}
 use Rattle.wp_model.specs.declared.holder.Holder.{Holder}
 use Rattle.wp_model.specs.declared.holder.Holder.TheVariants as holder
@@ -9,18 +10,18 @@ use Rattle.wp_model.specs.Batch.{change_to}
 use Rattle.wp_model.specs.Flushed.{later_versions}
 use Rattle.wp_cuts.specs.Cut.{carried_of}
 use Rattle.wp_cuts.specs.Kept.{carried_versions, HasKeysAt}
+use Rattle.wp_model.specs.Changed.{conflict}
 use Rattle.wp_model.specs.History.{entry_at, name_at, batch_at, is_undecided, undecided, is_changed, named, newest}
 use Rattle.wp_model.proofs.Entries.{batch_at_old}
 use Rattle.wp_text.specs.declared.script.Command.{Command}
 use Rattle.wp_text.specs.declared.script.Command.TheVariants as command
 use Rattle.wp_text.specs.declared.reply.Reply.{Reply}
 use Rattle.wp_text.specs.declared.reply.Reply.TheVariants as reply
-use Rattle.wp_replies.specs.declared.client.Txn.{Txn}
-use Rattle.wp_replies.specs.declared.client.Txn.TheVariants.{Idle, Open, Prepared}
+use Rattle.wp_replies.specs.Txn.{Txn, Staged, Idle, Open, Prepared}
 use Rattle.wp_replies.specs.Client.{Client}
 use Rattle.wp_replies.specs.After.{labels_after, after_reply}
-use Rattle.wp_replies.specs.Progress.{Progress, progress_after}
-use Rattle.wp_replies.specs.Replies.{Claim, Evidence, IsKnown, HasName, HasTaken, HasKey, WritesKey, WasTold, LogStopped, WasFlushed, WasBase, NoneRenewed, TablesFailed, OtherCompacted, refusal_of, IsFresh, IsLoggedAt, WasUndecided, HadKey, IsBusy, IsNameTaken, OwnSays, PreparesAt, CommitsAt, RollsBackAt, IsFlushCount, IsCompactionCount, HadBase, RenewsSomething, HasNothingToRenew, HasNothingToFlush, HasNothingToMerge, FailsFlush, FailsCompaction, FailsRenewal, IsHaltedAt, Condition, UnlessRefused}
+use Rattle.wp_replies.specs.Progress.{ToldKey, Progress, progress_after}
+use Rattle.wp_replies.specs.Replies.{Claim, Evidence, IsKnown, HasName, HasTaken, HasKey, WasLocked, WritesKey, WasTold, LogStopped, WasFlushed, WasBase, NoneRenewed, TablesFailed, OtherCompacted, refusal_of, IsFresh, IsLoggedAt, WasUndecided, HadKey, WasPreparedSince, IsBusy, IsNameTaken, OwnSays, ConflictsAt, KeepsKeys, PreparesAt, CommitsAt, RollsBackAt, IsFlushCount, IsCompactionCount, HadBase, RenewsSomething, HasNothingToRenew, HasNothingToFlush, HasNothingToMerge, FailsFlush, FailsCompaction, FailsRenewal, IsHaltedAt, Condition, UnlessRefused}
 use Rattle.wp_replies.specs.Session.{IsSession}
 use Rattle.wp_replies.specs.Tables.{unflushed, after_flush, listed, after_compaction, after_renewal}
 
@@ -34,6 +35,10 @@ slice_get_more (y ∷ xs) ys (suc k) x e = slice_get_more xs ys k x e
 entry_more : (h more : List Entry) (n : ℕ) (e : Entry) → entry_at h n ≡ Some e → entry_at (h ++ more) n ≡ Some e
 entry_more h more zero e is = absurd cc
 entry_more h more (suc n) e is = slice_get_more h more n e is
+
+pub entry_within : (h : List Entry) (n : ℕ) (e : Entry) → entry_at h n ≡ Some e → n ≤ length h
+entry_within h zero e is = omega arith
+entry_within h (suc n) e is = omega (arith, slice_get_within h n e is)
 
 longer : (h more : List Entry) (n : ℕ) → n ≤ length h → n ≤ length (h ++ more)
 longer h more n le = omega (arith, le, length-append h more)
@@ -62,6 +67,23 @@ had_more : (h more : List Entry) (from : ℕ) (name key : List ℕ) → HadKey h
 unfolding was_more
 had_more h more from name key (p, was, changed) = (p, was_more h more from name p was, front_more (λ f. is_changed (batch_at f p) key ≡ true) h more was.at was.fresh.1 changed)
 
+conflicts_more : (h more : List Entry) (last : ℕ) (txn : Txn) (key : List ℕ) (n : ℕ) → ConflictsAt h last txn key n → ConflictsAt (h ++ more) last txn key n
+conflicts_more h more last (Open own) key n (new, was) = (
+  new,
+  record {
+    at = was.at;
+    fresh = fresh_more h more last was.at was.fresh;
+    pin = was.pin;
+    pinned = was.pinned;
+    changed = front_more (λ f. conflict f key was.pin ≡ Some n) h more was.at was.fresh.1 was.changed;
+  },
+)
+conflicts_more h more last Idle key n k = absurd k
+conflicts_more h more last (Prepared p) key n k = absurd k
+
+keeps_more : (h more : List Entry) (last n : ℕ) (e : Entry) (own : Staged) (keys : List ToldKey) → IsLoggedAt h last n e → KeepsKeys (take (n - 1) h) own keys → KeepsKeys (take (n - 1) (h ++ more)) own keys
+keeps_more h more last n e own keys l k = let within = entry_within h n e l.1 in front_more (λ f. KeepsKeys f own keys) h more (n - 1) (omega (arith, within)) k
+
 -- the history with more entries, and with more known of the others
 abbrev grown : Evidence → List Entry → (Claim → Bool) → Evidence
 grown e more later = record e { history = e.history ++ more; known = later }
@@ -69,10 +91,15 @@ grown e more later = record e { history = e.history ++ more; known = later }
 abbrev KnowsMore : Evidence → (Claim → Bool) → Type 0
 KnowsMore e later = (claim : Claim) → IsKnown e claim → later claim ≡ true
 
+prepared_more : (e : Evidence) (more : List Entry) (later : Claim → Bool) (last : ℕ) (name : List ℕ) → WasPreparedSince e last name → WasPreparedSince (grown e more later) last name
+prepared_more e more later last name (p, was, behind) = (p, was_more e.history more last name p was, behind)
+
 busy_more : (e : Evidence) (more : List Entry) (later : Claim → Bool) → KnowsMore e later → (last : ℕ) (key : List ℕ) (by : Holder) → IsBusy e last key by → IsBusy (grown e more later) last key by
 busy_more e more later f last key (holder.Txn name) (inl had) = inl (had_more e.history more last name key had)
 busy_more e more later f last key (holder.Txn name) (inr (inl claim)) = inr (inl (f (HasKey name key) claim))
-busy_more e more later f last key (holder.Txn name) (inr (inr (claim, has))) = inr (inr (f (HasTaken name) claim, had_more e.history more e.opened name key has))
+busy_more e more later f last key (holder.Txn name) (inr (inr (inl (claim, has)))) = inr (inr (inl (f (HasTaken name) claim, had_more e.history more e.opened name key has)))
+busy_more e more later f last key (holder.Txn name) (inr (inr (inr (claim, inl was)))) = inr (inr (inr (f (WasLocked name key) claim, inl (prepared_more e more later last name was))))
+busy_more e more later f last key (holder.Txn name) (inr (inr (inr (claim, inr took)))) = inr (inr (inr (f (WasLocked name key) claim, inr (f (HasTaken name) took))))
 busy_more e more later f last key (holder.Client name) claim = f (WritesKey name key) claim
 
 taken_more : (e : Evidence) (more : List Entry) (later : Claim → Bool) → KnowsMore e later → (last : ℕ) (name : List ℕ) → IsNameTaken e last name → IsNameTaken (grown e more later) last name
@@ -87,14 +114,14 @@ own_more h more (Prepared p) key said s = (longer h more p s.0, ap (λ b. change
 value_more : (h more : List Entry) (key : List ℕ) (n : ℕ) (value : Option (List ℕ)) → n ≤ length h → newest (take n h) key ≡ value → newest (take n (h ++ more)) key ≡ value
 value_more h more key n value le is = front_more (λ f. newest f key ≡ value) h more n le is
 
-prepares_more : (h more : List Entry) (last : ℕ) (txn : Txn) (n : ℕ) → PreparesAt h last txn n → PreparesAt (h ++ more) last txn n
-prepares_more h more last (Open own) n l = logged_more h more last n _ l
-prepares_more h more last _ n l = absurd l
+prepares_more : (h more : List Entry) (progress : Progress) (txn : Txn) (n : ℕ) → PreparesAt h progress txn n → PreparesAt (h ++ more) progress txn n
+prepares_more h more progress (Open own) n (l, kept) = (logged_more h more progress.last n _ l, keeps_more h more progress.last n _ own progress.keys l kept)
+prepares_more h more progress _ n l = absurd l
 
-commits_more : (h more : List Entry) (last : ℕ) (txn : Txn) (n : ℕ) → CommitsAt h last txn n → CommitsAt (h ++ more) last txn n
-commits_more h more last Idle n l = absurd l
-commits_more h more last (Open own) n l = logged_more h more last n _ l
-commits_more h more last (Prepared p) n l = logged_more h more last n _ l
+commits_more : (h more : List Entry) (progress : Progress) (txn : Txn) (n : ℕ) → CommitsAt h progress txn n → CommitsAt (h ++ more) progress txn n
+commits_more h more progress Idle n l = absurd l
+commits_more h more progress (Open own) n (l, kept) = (logged_more h more progress.last n _ l, keeps_more h more progress.last n _ own progress.keys l kept)
+commits_more h more progress (Prepared p) n l = logged_more h more progress.last n _ l
 
 rolls_more : (h more : List Entry) (last : ℕ) (txn : Txn) (n : ℕ) → RollsBackAt h last txn n → RollsBackAt (h ++ more) last txn n
 rolls_more h more last (Prepared p) n (closed, (batch, undone)) = (logged_more h more last n _ closed, (batch, logged_more h more last (n - 1) _ undone))
@@ -168,6 +195,8 @@ renews_more e more later other below = tt
 pub snapshots_after : (p : ℕ) (client : Client) (c : Command) (r : Reply) → (after_reply p client c r).snapshots ≡ labels_after client.snapshots c r
 snapshots_after p client (command.Put key value) reply.Held = refl
 snapshots_after p client (command.Del key) reply.Held = refl
+snapshots_after p client (command.Lock key) (reply.Got value n) = refl
+snapshots_after p client (command.Lock key) (reply.Missing n) = refl
 snapshots_after p client (command.Begin name) reply.Begun = refl
 snapshots_after p client (command.Take name) reply.Took = refl
 snapshots_after p client (command.Snap label) (reply.Snapped n) = refl
@@ -183,10 +212,12 @@ condition_more e more later within f progress client p c reply.FaultLog k = (k.0
 condition_more e more later within f progress client p c (reply.Stopped n) k = (k.0, fresh_more e.history more progress.last n k.1, f (LogStopped n) k.2)
 condition_more e more later within f progress client p (command.Put key value) (reply.Put n) k = (k.0, logged_more e.history more progress.last n _ k.1)
 condition_more e more later within f progress client p (command.Put key value) reply.Held k = k
-condition_more e more later within f progress client p (command.Put key value) (reply.Busy holder) k = busy_more e more later f progress.last key holder k
+condition_more e more later within f progress client p (command.Put key value) (reply.Busy holder) k = (k.0, busy_more e more later f progress.last key holder k.1)
+condition_more e more later within f progress client p (command.Put key value) (reply.Conflict n) k = conflicts_more e.history more progress.last client.txn key n k
 condition_more e more later within f progress client p (command.Del key) (reply.Del n) k = (k.0, logged_more e.history more progress.last n _ k.1)
 condition_more e more later within f progress client p (command.Del key) reply.Held k = k
-condition_more e more later within f progress client p (command.Del key) (reply.Busy holder) k = busy_more e more later f progress.last key holder k
+condition_more e more later within f progress client p (command.Del key) (reply.Busy holder) k = (k.0, busy_more e more later f progress.last key holder k.1)
+condition_more e more later within f progress client p (command.Del key) (reply.Conflict n) k = conflicts_more e.history more progress.last client.txn key n k
 condition_more e more later within f progress client p (command.Get key) (reply.Got value n) k = (own_more e.history more client.txn key _ k.0, fresh_more e.history more progress.last n k.1, value_more e.history more key n _ k.1.1 k.2)
 condition_more e more later within f progress client p (command.Get key) (reply.Missing n) k = (own_more e.history more client.txn key _ k.0, fresh_more e.history more progress.last n k.1, value_more e.history more key n _ k.1.1 k.2)
 condition_more e more later within f progress client p (command.Get key) (reply.GotOwn value) k = own_more e.history more client.txn key _ k
@@ -197,8 +228,15 @@ condition_more e more later within f progress client p (command.Snap label) (rep
 condition_more e more later within f progress client p (command.Free label) reply.Freed k = k
 condition_more e more later within f progress client p (command.Begin name) reply.Begun k = k
 condition_more e more later within f progress client p (command.Begin name) (reply.Taken other) k = (k.0, taken_more e more later f progress.last name k.1)
-condition_more e more later within f progress client p command.Prepare (reply.Prepared n) k = prepares_more e.history more progress.last client.txn n k
-condition_more e more later within f progress client p command.Commit (reply.Committed n) k = commits_more e.history more progress.last client.txn n k
+condition_more e more later within f progress client p command.Pin (reply.Pinned n) k = fresh_more e.history more progress.last n k
+condition_more e more later within f progress client p (command.Lock key) (reply.Got value n) k = (own_more e.history more client.txn key _ k.0, fresh_more e.history more progress.last n k.1, value_more e.history more key n _ k.1.1 k.2)
+condition_more e more later within f progress client p (command.Lock key) (reply.Missing n) k = (own_more e.history more client.txn key _ k.0, fresh_more e.history more progress.last n k.1, value_more e.history more key n _ k.1.1 k.2)
+condition_more e more later within f progress client p (command.Lock key) (reply.GotOwn value) k = own_more e.history more client.txn key _ k
+condition_more e more later within f progress client p (command.Lock key) reply.MissingOwn k = own_more e.history more client.txn key _ k
+condition_more e more later within f progress client p (command.Lock key) (reply.Busy holder) k = (k.0, busy_more e more later f progress.last key holder k.1)
+condition_more e more later within f progress client p (command.Lock key) (reply.Conflict n) k = conflicts_more e.history more progress.last client.txn key n k
+condition_more e more later within f progress client p command.Prepare (reply.Prepared n) k = prepares_more e.history more progress client.txn n k
+condition_more e more later within f progress client p command.Commit (reply.Committed n) k = commits_more e.history more progress client.txn n k
 condition_more e more later within f progress client p command.Rollback reply.Dropped k = k
 condition_more e more later within f progress client p command.Rollback (reply.RolledBack n) k = rolls_more e.history more progress.last client.txn n k
 condition_more e more later within f progress client p command.Leave reply.Left k = k

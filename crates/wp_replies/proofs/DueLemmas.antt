@@ -1,8 +1,10 @@
 -- Replies that are due at moments of the history, one after another, are a session.
-use Rattle.std.proofs.Common.{◌≡◌, ℕ, ◌+◌, ◌-◌, ◌≤◌, ◌⊎◌, Bool, true, false, true≢false, List, [], ◌∷◌, ◌++◌, length, take, drop, Option, Some, None, refl, sym, ap, ◌∙◌, subst, append_assoc, length-append, arith, inl, inr}
+use Rattle.std.proofs.Common.{◌≡◌, ℕ, ◌+◌, ◌-◌, ◌<◌, ◌≤◌, ◌⊎◌, Bool, true, false, true≢false, List, [], ◌∷◌, ◌++◌, length, take, drop, Option, Some, None, refl, sym, ap, ◌∙◌, subst, append_assoc, length-append, arith, inl, inr}
 use Rattle.std.specs.Prelude.{IfSome, is_some, nat_le, unwrap_or}
 use Rattle.std.specs.FinMap as map
-use Rattle.std.proofs.lemmas.Bool.{cases_Bool}
+use Rattle.std.specs.List.{AllByRecursion, find}
+use Rattle.std.specs.Option.{option_map}
+use Rattle.std.proofs.lemmas.Bool.{cases_Bool, and_parts}
 use Rattle.std.proofs.lemmas.Slice.Eq.{bytes_eq-Decides}
 use Rattle.std.proofs.lemmas.List.{take-append-drop}
 use Rattle.wp_model.specs.declared.change.Change.{Change}
@@ -12,77 +14,132 @@ use Rattle.wp_model.specs.declared.entry.Entry.TheVariants as entry
 use Rattle.wp_model.specs.declared.holder.Holder.{Holder}
 use Rattle.wp_model.specs.declared.holder.Holder.TheVariants as holder
 use Rattle.wp_model.specs.Batch.{key_of, change_to}
-use Rattle.wp_model.specs.History.{entry_at, name_at, batch_at, named, holder_of, value_at}
+use Rattle.wp_model.specs.Changed.{conflict}
+use Rattle.wp_model.specs.History.{entry_at, name_at, batch_at, is_undecided, named, holder_of, value_at}
 use Rattle.wp_model.specs.Legal.{prior}
+use Rattle.wp_model.specs.LockState.{is_among_keys}
 use Rattle.wp_text.specs.declared.script.Command.{Command}
 use Rattle.wp_text.specs.declared.script.Command.TheVariants as command
 use Rattle.wp_text.specs.declared.reply.Reply.{Reply}
 use Rattle.wp_text.specs.declared.reply.Reply.TheVariants as reply
 use Rattle.wp_replies.specs.declared.client.TheConstants.{MOST_SNAPSHOTS}
-use Rattle.wp_replies.specs.declared.client.Txn.{Txn}
-use Rattle.wp_replies.specs.declared.client.Txn.TheVariants.{Idle, Open, Prepared}
+use Rattle.wp_replies.specs.Txn.{Txn, Staged, Idle, Open, Prepared, is_its_key, LockedKeys}
 use Rattle.wp_replies.specs.declared.plan.Plan.{Plan}
 use Rattle.wp_replies.specs.declared.plan.Plan.TheVariants.{Say, Log, RollBack}
 use Rattle.wp_replies.specs.Alike.{AreFrom}
-use Rattle.wp_replies.specs.Client.{Client, AreWithin, number_of, own_batch, has_no_room}
-use Rattle.wp_replies.specs.After.{with_staged, labels_after}
+use Rattle.wp_replies.specs.Client.{Client, AreWithin, number_of, pins_of, own_batch, has_no_room}
+use Rattle.wp_replies.specs.After.{with_staged, with_locked_key, with_pin, labels_after}
 use Rattle.wp_replies.specs.Kind.{is_logged, fresh_in}
 use Rattle.wp_replies.specs.Progress.{Progress, knows_label, progress_after}
-use Rattle.wp_replies.specs.Replies.{WasTold, Evidence, IsKnown, refusal_of, refuses_change, IsLoggedAt, WasUndecided, IsBusy, TxnIsOpen, TxnIsWithin, OwnSays, needed, AsksFor, unless_labelled, unless_idle, unless_open, if_idle, unless_prepared, PreparesAt, CommitsAt, RollsBackAt, UnlessRefused}
-use Rattle.wp_replies.specs.Plan.{plan, asked_of, next, busy_or, change_plan, read_reply, get_reply, get_at_reply, free_reply, begin_reply, begin_plan, prepare_plan, commit_plan, rollback_plan, leave_plan, take_reply, take_plan}
-use Rattle.wp_replies.specs.Due.{heard, reply_to, due, taken, client_after}
-use Rattle.wp_replies.specs.Moments.{AreDueFrom}
+use Rattle.wp_replies.specs.Replies.{WasLocked, WasTold, Evidence, IsKnown, refusal_of, refuses_change, refuses_lock, IsLoggedAt, WasUndecided, IsBusy, TxnIsOpen, HasNotKey, ConflictsAt, KeepsKeys, TxnIsWithin, OwnSays, needed, AsksFor, unless_labelled, unless_idle, unless_open, if_idle, unless_prepared, PreparesAt, CommitsAt, RollsBackAt, UnlessRefused}
+use Rattle.wp_replies.specs.Plan.{asked_of, next, holds_beyond, holder_then, busy_or, unless_busy, conflict_or, unless_changed, with_key_plan, change_plan, read_or_own, pin_plan, lock_plan, read_reply, get_reply, get_at_reply, free_reply, begin_reply, begin_plan, prepare_plan, commit_plan, rollback_plan, leave_plan, take_reply, take_plan}
+use Rattle.wp_replies.specs.Due.{plan_in, heard, reply_to, due, taken, client_after}
+use Rattle.wp_replies.specs.Moments.{AreLockedBy, TxnIsKept, AreDueFrom}
 use Rattle.wp_replies.specs.Session.{IsSession}
 use Rattle.wp_model.proofs.Found.{found_holder, found_named}
 use Rattle.wp_model.proofs.Entries.{undecided_within, batch_at_old}
 use Rattle.wp_replies.proofs.Within.{within_same, within_filter, within_more, number_within}
 use Rattle.wp_replies.proofs.Conditions.{snapshots_after}
-use Rattle.wp_replies.proofs.Scenes.{entry_in_front, next_entry, value_in_front, Scene, front, store_in, ConditionOf, IsAllowed, front_size, front_fresh, say_refused, say_allowed, board_allowed, log_allowed, entries_in, one_allowed}
-use Rattle.wp_replies.proofs.BelowAll.{from_same, from_filter}
+use Rattle.wp_replies.proofs.Scenes.{entry_in_front, next_entry, value_in_front, Scene, front, store_in, ConditionOf, IsAllowed, front_size, front_fresh, say_refused, say_allowed, board_allowed, may_fail, log_allowed, entries_in, one_allowed}
+use Rattle.wp_replies.proofs.BelowAll.{from_same, from_filter, pinned_late}
 use Rattle.wp_replies.proofs.DueTables.{flush_allowed, compact_allowed, renew_allowed}
 
--- ---- put, del
-
-busy_in : {client : Client} {c : Command} {answer : Reply} (s : Scene client c answer) (key : List ℕ) (p : ℕ) → holder_of (front s) key ≡ Some p → IsBusy s.evidence s.progress.last key (holder.Txn (name_at (front s) p))
-busy_in s key p is =
-    let found = found_holder (front s) key p is in
-    let fresh = front_fresh s in
-    inl (p, record { at = s.given.before; fresh = (omega (arith, fresh.0, front_size s), omega (arith, fresh.1, front_size s)); undecided = found.0; named = refl }, found.1)
+-- ---- keys
 
 option_cases : {A : Type 0} (o : Option A) → (o ≡ None) ⊎ ((a : A) × (o ≡ Some a))
 option_cases None = inl refl
 option_cases (Some a) = inr (a, refl)
 
-change_allowed : {client : Client} {c : Command} {answer : Reply} (s : Scene client c answer) (change : Change) (made : Reply)
-    → plan (front s) client c ≡ change_plan (front s) client.txn change made → refusal_of client c ≡ refuses_change client.txn (key_of change) → (client.txn ≡ Idle → needed client.txn c ≡ 1) → (client.txn ≡ Idle → AsksFor client.txn c (entry.Write (change ∷ []) ∷ [])) → is_logged made ≡ true
-    → (client.txn ≡ Idle → IsLoggedAt s.evidence.history s.progress.last (next (front s)) (entry.Write (change ∷ [])) → ConditionOf s made)
-    → ((by : Holder) → IsBusy s.evidence s.progress.last (key_of change) by → ConditionOf s (reply.Busy by))
-    → (TxnIsOpen client.txn → ConditionOf s reply.Held) → IsAllowed s
-change_allowed {client = client} {c = c} s change made plan_is refusal_is needs asks logs condition busy held = by client.txn refl
-  where
-    on_holder : (other : Plan) → plan (front s) client c ≡ busy_or (front s) (holder_of (front s) (key_of change)) other → refusal_of client c ≡ None → (plan (front s) client c ≡ other → IsAllowed s) → IsAllowed s
-    on_holder other is free rest =
-        elim (option_cases (holder_of (front s) (key_of change))) [
-          | inl none ↦ rest (is ∙ ap (λ (o : Option ℕ). busy_or (front s) o other) none)
-          | inr found ↦ say_allowed s (reply.Busy (holder.Txn (name_at (front s) found.0))) (is ∙ ap (λ (o : Option ℕ). busy_or (front s) o other) found.1) refl free (busy _ (busy_in s (key_of change) found.0 found.1))
-        ]
+-- the first of these that passes the test has what all have
+found_has : (P : LockedKeys → Type 0) (test : LockedKeys → Bool) (xs : List LockedKeys) (x : LockedKeys) → AllByRecursion P xs → find test xs ≡ Some x → P x × (test x ≡ true)
+found_has P test [] x all is = absurd cc
+found_has P test (y ∷ xs) x all is =
+    elim (cases_Bool (test y)) [
+      | inl so ↦ let here : Some y ≡ Some x = rw so at is in let same : y ≡ x = cc in subst (λ z. P z × (test z ≡ true)) same (all.0, so)
+      | inr other ↦ found_has P test xs x all.1 (rw other at is)
+    ]
 
+abbrev locked_in : {client : Client} {c : Command} {answer : Reply} → Scene client c answer → List LockedKeys
+locked_in s = s.given.devices.locked
+
+busy_in : {client : Client} {c : Command} {answer : Reply} (s : Scene client c answer) (key : List ℕ) (p : ℕ) → holder_then (front s) (locked_in s) key ≡ Some p → IsBusy s.evidence s.progress.last key (holder.Txn (name_at (front s) p))
+busy_in s key p is = by (holder_of (front s) key) refl
+  where
+    was : is_undecided (front s) p ≡ true → WasUndecided s.evidence.history s.progress.last (name_at (front s) p) p
+    was undecided =
+        let fresh = front_fresh s in
+        record { at = s.given.before; fresh = (omega (arith, fresh.0, front_size s), omega (arith, fresh.1, front_size s)); undecided = undecided; named = refl }
+
+    beyond : (found : Option LockedKeys) → find (holds_beyond (front s) key) (locked_in s) ≡ found → option_map (λ x. x.number) found ≡ Some p → IsBusy s.evidence s.progress.last key (holder.Txn (name_at (front s) p))
+    beyond None found number = absurd cc
+    beyond (Some x) found number =
+        let got = found_has (AreLockedBy s.evidence s.given.before) (holds_beyond (front s) key) (locked_in s) x s.given.known.locked found in
+        let holds = and_parts (is_undecided (front s) x.number) (is_among_keys x.keys key) got.1 in
+        let same : x.number ≡ p = cc in
+        inr (inr (inr (subst (λ n. IsKnown s.evidence (WasLocked (name_at (front s) n) key)) same (got.0.1 key holds.1), inl (p, was (subst (λ n. is_undecided (front s) n ≡ true) same holds.0), subst (λ n. s.evidence.opened < n) same got.0.0))))
+
+    by : (first : Option ℕ) → holder_of (front s) key ≡ first → IsBusy s.evidence s.progress.last key (holder.Txn (name_at (front s) p))
+    by None first = beyond (find (holds_beyond (front s) key) (locked_in s)) refl (rw first at is)
+    by (Some q) first =
+        let same : holder_of (front s) key ≡ Some p = rw first (rw first at is) in
+        let found = found_holder (front s) key p same in
+        inl (p, was found.0, found.1)
+
+unless_busy_allowed : {client : Client} {c : Command} {answer : Reply} (s : Scene client c answer) (key : List ℕ) (other : Plan) → plan_in (store_in s) client c ≡ unless_busy (front s) (locked_in s) key other → refusal_of client c ≡ None
+    → ((by : Holder) → IsBusy s.evidence s.progress.last key by → ConditionOf s (reply.Busy by)) → (plan_in (store_in s) client c ≡ other → IsAllowed s) → IsAllowed s
+unless_busy_allowed s key other is free busy rest =
+    elim (option_cases (holder_then (front s) (locked_in s) key)) [
+      | inl none ↦ rest (is ∙ ap (λ (o : Option ℕ). busy_or (front s) o other) none)
+      | inr found ↦ say_allowed s (reply.Busy (holder.Txn (name_at (front s) found.0))) (is ∙ ap (λ (o : Option ℕ). busy_or (front s) o other) found.1) refl free (busy _ (busy_in s key found.0 found.1))
+    ]
+
+-- a key comes to the open transaction, or is refused
+key_allowed : {client : Client} {c : Command} {answer : Reply} (s : Scene client c answer) (own : Staged) (key : List ℕ) (made : Reply) → client.txn ≡ Open own
+    → plan_in (store_in s) client c ≡ with_key_plan (front s) (locked_in s) own key made → may_fail made ≡ false → refusal_of client c ≡ None
+    → ((by : Holder) → HasNotKey client.txn key → IsBusy s.evidence s.progress.last key by → ConditionOf s (reply.Busy by))
+    → ((n : ℕ) → ConflictsAt s.evidence.history s.progress.last client.txn key n → ConditionOf s (reply.Conflict n))
+    → ConditionOf s made → IsAllowed s
+key_allowed {client = client} {c = c} s own key made opened plan_is plain free busy conflicts condition =
+    elim (cases_Bool (is_its_key own key)) [
+      | inl its ↦ say_allowed s made (rw its at plan_is) plain free condition
+      | inr new ↦ unless_busy_allowed s key (unless_changed (front s) own.pin key (Say made)) (rw new at plan_is) free (λ by is. busy by (subst (λ (t : Txn). HasNotKey t key) (sym opened) new) is) (λ is. on_pin new own.pin refl is)
+    ]
+  where
+    on_last : is_its_key own key ≡ false → (pin : ℕ) → own.pin ≡ Some pin → (last : Option ℕ) → conflict (front s) key pin ≡ last → plan_in (store_in s) client c ≡ conflict_or last (Say made) → IsAllowed s
+    on_last new pin is None none says = say_allowed s made says plain free condition
+    on_last new pin is (Some n) changed says =
+        let fresh = front_fresh s in
+        say_allowed s (reply.Conflict n) says refl free (conflicts n (subst (λ (t : Txn). ConflictsAt s.evidence.history s.progress.last t key n) (sym opened)
+        (new, record { at = s.given.before; fresh = (omega (arith, fresh.0, front_size s), omega (arith, fresh.1, front_size s)); pin = pin; pinned = is; changed = changed })))
+
+    on_pin : is_its_key own key ≡ false → (pin : Option ℕ) → own.pin ≡ pin → plan_in (store_in s) client c ≡ unless_changed (front s) pin key (Say made) → IsAllowed s
+    on_pin new None is says = say_allowed s made says plain free condition
+    on_pin new (Some pin) is says = on_last new pin is (conflict (front s) key pin) refl says
+
+-- ---- put, del
+
+change_allowed : {client : Client} {c : Command} {answer : Reply} (s : Scene client c answer) (change : Change) (made : Reply)
+    → plan_in (store_in s) client c ≡ change_plan (front s) (locked_in s) client.txn change made → refusal_of client c ≡ refuses_change client.txn (key_of change) → (client.txn ≡ Idle → needed client.txn c ≡ 1) → (client.txn ≡ Idle → AsksFor client.txn c (entry.Write (change ∷ []) ∷ [])) → is_logged made ≡ true
+    → (client.txn ≡ Idle → IsLoggedAt s.evidence.history s.progress.last (next (front s)) (entry.Write (change ∷ [])) → ConditionOf s made)
+    → ((by : Holder) → HasNotKey client.txn (key_of change) → IsBusy s.evidence s.progress.last (key_of change) by → ConditionOf s (reply.Busy by))
+    → ((n : ℕ) → ConflictsAt s.evidence.history s.progress.last client.txn (key_of change) n → ConditionOf s (reply.Conflict n))
+    → (TxnIsOpen client.txn → ConditionOf s reply.Held) → IsAllowed s
+change_allowed {client = client} {c = c} s change made plan_is refusal_is needs asks logs condition busy conflicts held = by client.txn refl
+  where
     by : (txn : Txn) → client.txn ≡ txn → IsAllowed s
     by Idle is =
-        let asked : plan (front s) client c ≡ change_plan (front s) Idle change made = plan_is ∙ ap (λ (t : Txn). change_plan (front s) t change made) is in
+        let asked : plan_in (store_in s) client c ≡ change_plan (front s) (locked_in s) Idle change made = plan_is ∙ ap (λ (t : Txn). change_plan (front s) (locked_in s) t change made) is in
         let free : refusal_of client c ≡ None = refusal_is ∙ ap (λ (t : Txn). refuses_change t (key_of change)) is in
-        on_holder (Log (entry.Write (change ∷ [])) made) asked free (λ log. one_allowed s (entry.Write (change ∷ [])) made log logs free (needs is) (asks is) (condition is))
+        unless_busy_allowed s (key_of change) (Log (entry.Write (change ∷ [])) made) asked free (λ by busy_is. busy by (subst (λ (t : Txn). HasNotKey t (key_of change)) (sym is) tt) busy_is) (λ log. one_allowed s (entry.Write (change ∷ [])) made log logs free (needs is) (asks is) (condition is))
     by (Open own) is =
-        let asked : plan (front s) client c ≡ change_plan (front s) (Open own) change made = plan_is ∙ ap (λ (t : Txn). change_plan (front s) t change made) is in
+        let asked : plan_in (store_in s) client c ≡ change_plan (front s) (locked_in s) (Open own) change made = plan_is ∙ ap (λ (t : Txn). change_plan (front s) (locked_in s) t change made) is in
         let refuses : refusal_of client c ≡ refuses_change (Open own) (key_of change) = refusal_is ∙ ap (λ (t : Txn). refuses_change t (key_of change)) is in
-        elim (cases_Bool (has_no_room own.batch (key_of change))) [
+        elim (cases_Bool (has_no_room own (key_of change))) [
           | inl full ↦ say_refused s reply.TooMany (rw full at asked) refl (rw full at refuses)
-          | inr room ↦
-              let free : refusal_of client c ≡ None = rw room at refuses in
-              on_holder (Say reply.Held) (rw room at asked) free (λ says. say_allowed s reply.Held says refl free (held (subst TxnIsOpen (sym is) tt)))
+          | inr room ↦ key_allowed s own (key_of change) reply.Held is (rw room at asked) refl (rw room at refuses) busy conflicts (held (subst TxnIsOpen (sym is) tt))
         ]
     by (Prepared p) is =
-        say_refused s reply.State (plan_is ∙ ap (λ (t : Txn). change_plan (front s) t change made) is) refl (refusal_is ∙ ap (λ (t : Txn). refuses_change t (key_of change)) is)
+        say_refused s reply.State (plan_is ∙ ap (λ (t : Txn). change_plan (front s) (locked_in s) t change made) is) refl (refusal_is ∙ ap (λ (t : Txn). refuses_change t (key_of change)) is)
 
 -- ---- get
 
@@ -104,10 +161,10 @@ get_allowed {client = client} key s = by (change_to (own_batch (front s) client.
     by_value value is none =
         let own : OwnSays s.evidence.history client.txn key None = subst (OwnSays s.evidence.history client.txn key) none (own_in s key) in
         let here : value_at s.evidence.history key (length (front s)) ≡ value = sym (value_in_front s.evidence.history key (length (front s)) s.given.before (omega (arith, front_size s))) ∙ is in
-        let says : plan (front s) client (command.Get key) ≡ Say (read_reply value (length (front s))) = ap (λ (o : Option (Option (List ℕ))). Say (get_reply (front s) o key)) none ∙ ap (λ (v : Option (List ℕ)). Say (read_reply v (length (front s)))) is in
+        let says : plan_in (store_in s) client (command.Get key) ≡ Say (read_reply value (length (front s))) = ap (λ (o : Option (Option (List ℕ))). Say (get_reply (front s) o key)) none ∙ ap (λ (v : Option (List ℕ)). Say (read_reply v (length (front s)))) is in
         read value says own here
       where
-        read : (v : Option (List ℕ)) → plan (front s) client (command.Get key) ≡ Say (read_reply v (length (front s))) → OwnSays s.evidence.history client.txn key None → value_at s.evidence.history key (length (front s)) ≡ v → IsAllowed s
+        read : (v : Option (List ℕ)) → plan_in (store_in s) client (command.Get key) ≡ Say (read_reply v (length (front s))) → OwnSays s.evidence.history client.txn key None → value_at s.evidence.history key (length (front s)) ≡ v → IsAllowed s
         read (Some v) says own here = say_allowed s (reply.Got v (length (front s))) says refl refl (own, front_fresh s, here)
         read None says own here = say_allowed s (reply.Missing (length (front s))) says refl refl (own, front_fresh s, here)
 
@@ -119,7 +176,7 @@ get_allowed {client = client} key s = by (change_to (own_batch (front s) client.
 get_at_allowed : {client : Client} {answer : Reply} (key label : List ℕ) (s : Scene client (command.GetAt key label) answer) → IsAllowed s
 get_at_allowed {client = client} key label s = by (number_of client.snapshots label) refl
   where
-    read : (n : ℕ) (value : Option (List ℕ)) → plan (front s) client (command.GetAt key label) ≡ Say (read_reply value n) → number_of client.snapshots label ≡ Some n → n ≤ length s.evidence.history → value_at s.evidence.history key n ≡ value → IsAllowed s
+    read : (n : ℕ) (value : Option (List ℕ)) → plan_in (store_in s) client (command.GetAt key label) ≡ Say (read_reply value n) → number_of client.snapshots label ≡ Some n → n ≤ length s.evidence.history → value_at s.evidence.history key n ≡ value → IsAllowed s
     read n (Some v) says is within here = say_allowed s (reply.Got v n) says refl (ap (λ (o : Option ℕ). unless_labelled o label) is) ((is, within), here)
     read n None says is within here = say_allowed s (reply.Missing n) says refl (ap (λ (o : Option ℕ). unless_labelled o label) is) ((is, within), here)
 
@@ -128,6 +185,48 @@ get_at_allowed {client = client} key label s = by (number_of client.snapshots la
     by (Some n) is =
         let low : n ≤ s.from = subst (λ (o : Option ℕ). IfSome o (λ m. m ≤ s.from)) is (number_within s.from client.snapshots label s.snapshots) in
         read n (value_at (front s) key n) (ap (λ (o : Option ℕ). Say (get_at_reply (front s) o key label)) is) is (omega (arith, low, s.given.earlier, s.given.grows, s.given.within)) (sym (value_in_front s.evidence.history key n s.given.before (omega (arith, low, s.given.earlier))))
+
+-- ---- pin, lock
+
+pin_allowed : {client : Client} {answer : Reply} (s : Scene client command.Pin answer) → IsAllowed s
+pin_allowed {client = client} s = by client.txn refl
+  where
+    by : (txn : Txn) → client.txn ≡ txn → IsAllowed s
+    by Idle is = say_refused s reply.State (ap (pin_plan (front s)) is) refl (ap unless_open is)
+    by (Open own) is = say_allowed s (reply.Pinned (length (front s))) (ap (pin_plan (front s)) is) refl (ap unless_open is) (front_fresh s)
+    by (Prepared p) is = say_refused s reply.State (ap (pin_plan (front s)) is) refl (ap unless_open is)
+
+lock_allowed : {client : Client} {answer : Reply} (key : List ℕ) (s : Scene client (command.Lock key) answer) → IsAllowed s
+lock_allowed {client = client} key s = by client.txn refl
+  where
+    says : (own : Staged) → client.txn ≡ Open own → (said : Option (Option (List ℕ))) → change_to own.batch key ≡ said → OwnSays s.evidence.history client.txn key said
+    says own is said change = subst (λ (t : Txn). OwnSays s.evidence.history t key said) (sym is) (tt, change)
+
+    read : (own : Staged) → client.txn ≡ Open own → (value : Option (List ℕ)) → value_at (front s) key (length (front s)) ≡ value → change_to own.batch key ≡ None → refusal_of client (command.Lock key) ≡ None
+        → plan_in (store_in s) client (command.Lock key) ≡ with_key_plan (front s) (locked_in s) own key (read_reply value (length (front s))) → IsAllowed s
+    read own is (Some value) there none free plan_is =
+        let here : value_at s.evidence.history key (length (front s)) ≡ Some value = sym (value_in_front s.evidence.history key (length (front s)) s.given.before (omega (arith, front_size s))) ∙ there in
+        key_allowed s own key (reply.Got value (length (front s))) is plan_is refl free (λ by new busy. (new, busy)) (λ n conflicts. conflicts) (says own is None none, front_fresh s, here)
+    read own is None there none free plan_is =
+        let here : value_at s.evidence.history key (length (front s)) ≡ None = sym (value_in_front s.evidence.history key (length (front s)) s.given.before (omega (arith, front_size s))) ∙ there in
+        key_allowed s own key (reply.Missing (length (front s))) is plan_is refl free (λ by new busy. (new, busy)) (λ n conflicts. conflicts) (says own is None none, front_fresh s, here)
+
+    on_own : (own : Staged) → client.txn ≡ Open own → (said : Option (Option (List ℕ))) → change_to own.batch key ≡ said → refusal_of client (command.Lock key) ≡ None
+        → plan_in (store_in s) client (command.Lock key) ≡ read_or_own (front s) (locked_in s) own said key → IsAllowed s
+    on_own own is (Some (Some value)) change free plan_is = say_allowed s (reply.GotOwn value) plan_is refl free (says own is (Some (Some value)) change)
+    on_own own is (Some None) change free plan_is = say_allowed s reply.MissingOwn plan_is refl free (says own is (Some None) change)
+    on_own own is None change free plan_is = read own is (value_at (front s) key (length (front s))) refl change free plan_is
+
+    by : (txn : Txn) → client.txn ≡ txn → IsAllowed s
+    by Idle is = say_refused s reply.State (ap (λ (t : Txn). lock_plan (front s) (locked_in s) t key) is) refl (ap (λ (t : Txn). refuses_lock t key) is)
+    by (Open own) is =
+        let asked : plan_in (store_in s) client (command.Lock key) ≡ lock_plan (front s) (locked_in s) (Open own) key = ap (λ (t : Txn). lock_plan (front s) (locked_in s) t key) is in
+        let refuses : refusal_of client (command.Lock key) ≡ refuses_lock (Open own) key = ap (λ (t : Txn). refuses_lock t key) is in
+        elim (cases_Bool (has_no_room own key)) [
+          | inl full ↦ say_refused s reply.TooMany (rw full at asked) refl (rw full at refuses)
+          | inr room ↦ on_own own is (change_to own.batch key) refl (rw room at refuses) (rw room at asked)
+        ]
+    by (Prepared p) is = say_refused s reply.State (ap (λ (t : Txn). lock_plan (front s) (locked_in s) t key) is) refl (ap (λ (t : Txn). refuses_lock t key) is)
 
 -- ---- snapshots
 
@@ -168,12 +267,19 @@ begin_allowed {client = client} name s = by client.txn refl
     by (Open own) is = say_refused s reply.State (ap (λ (t : Txn). begin_plan (front s) t name) is) refl (ap unless_idle is)
     by (Prepared p) is = say_refused s reply.State (ap (λ (t : Txn). begin_plan (front s) t name) is) refl (ap unless_idle is)
 
+-- no entry before the next one changed a key of the open transaction
+keeps_before : {client : Client} {c : Command} {answer : Reply} (s : Scene client c answer) (own : Staged) → client.txn ≡ Open own → KeepsKeys (take (next (front s) - 1) s.evidence.history) own s.progress.keys
+keeps_before s own is =
+    let kept = subst (TxnIsKept (front s) s.progress.keys) is s.given.kept in
+    let before : next (front s) - 1 ≡ s.given.before = omega (arith, front_size s) in
+    subst (λ (n : ℕ). KeepsKeys (take n s.evidence.history) own s.progress.keys) (sym before) kept
+
 prepare_allowed : {client : Client} {answer : Reply} (s : Scene client command.Prepare answer) → IsAllowed s
 prepare_allowed {client = client} s = by client.txn refl
   where
     by : (txn : Txn) → client.txn ≡ txn → IsAllowed s
     by Idle is = say_refused s reply.State (ap (prepare_plan (front s)) is) refl (ap unless_open is)
-    by (Open own) is = one_allowed s (entry.Prepare own.name own.batch) (reply.Prepared (next (front s))) (ap (prepare_plan (front s)) is) refl (ap unless_open is) (ap (λ (t : Txn). needed t command.Prepare) is) (subst (λ (t : Txn). AsksFor t command.Prepare (entry.Prepare own.name own.batch ∷ [])) (sym is) refl) (λ here. subst (λ (t : Txn). PreparesAt s.evidence.history s.progress.last t (next (front s))) (sym is) here)
+    by (Open own) is = one_allowed s (entry.Prepare own.name own.batch) (reply.Prepared (next (front s))) (ap (prepare_plan (front s)) is) refl (ap unless_open is) (ap (λ (t : Txn). needed t command.Prepare) is) (subst (λ (t : Txn). AsksFor t command.Prepare (entry.Prepare own.name own.batch ∷ [])) (sym is) refl) (λ here. subst (λ (t : Txn). PreparesAt s.evidence.history s.progress t (next (front s))) (sym is) (here, keeps_before s own is))
     by (Prepared p) is = say_refused s reply.State (ap (prepare_plan (front s)) is) refl (ap unless_open is)
 
 commit_allowed : {client : Client} {answer : Reply} (s : Scene client command.Commit answer) → IsAllowed s
@@ -181,8 +287,8 @@ commit_allowed {client = client} s = by client.txn refl
   where
     by : (txn : Txn) → client.txn ≡ txn → IsAllowed s
     by Idle is = say_refused s reply.State (ap (commit_plan (front s)) is) refl (ap if_idle is)
-    by (Open own) is = one_allowed s (entry.Write own.batch) (reply.Committed (next (front s))) (ap (commit_plan (front s)) is) refl (ap if_idle is) (ap (λ (t : Txn). needed t command.Commit) is) (subst (λ (t : Txn). AsksFor t command.Commit (entry.Write own.batch ∷ [])) (sym is) refl) (λ here. subst (λ (t : Txn). CommitsAt s.evidence.history s.progress.last t (next (front s))) (sym is) here)
-    by (Prepared p) is = one_allowed s (entry.Commit p) (reply.Committed (next (front s))) (ap (commit_plan (front s)) is) refl (ap if_idle is) (ap (λ (t : Txn). needed t command.Commit) is) (subst (λ (t : Txn). AsksFor t command.Commit (entry.Commit p ∷ [])) (sym is) refl) (λ here. subst (λ (t : Txn). CommitsAt s.evidence.history s.progress.last t (next (front s))) (sym is) here)
+    by (Open own) is = one_allowed s (entry.Write own.batch) (reply.Committed (next (front s))) (ap (commit_plan (front s)) is) refl (ap if_idle is) (ap (λ (t : Txn). needed t command.Commit) is) (subst (λ (t : Txn). AsksFor t command.Commit (entry.Write own.batch ∷ [])) (sym is) refl) (λ here. subst (λ (t : Txn). CommitsAt s.evidence.history s.progress t (next (front s))) (sym is) (here, keeps_before s own is))
+    by (Prepared p) is = one_allowed s (entry.Commit p) (reply.Committed (next (front s))) (ap (commit_plan (front s)) is) refl (ap if_idle is) (ap (λ (t : Txn). needed t command.Commit) is) (subst (λ (t : Txn). AsksFor t command.Commit (entry.Commit p ∷ [])) (sym is) refl) (λ here. subst (λ (t : Txn). CommitsAt s.evidence.history s.progress t (next (front s))) (sym is) here)
 
 rollback_allowed : {client : Client} {answer : Reply} (s : Scene client command.Rollback answer) → IsAllowed s
 rollback_allowed {client = client} {answer = answer} s = by client.txn refl
@@ -244,13 +350,15 @@ hear_allowed {client = client} label s = by (map.get s.given.devices.board label
 -- ---- all commands
 
 due_allowed : (client : Client) (c : Command) (answer : Reply) (s : Scene client c answer) → IsAllowed s
-due_allowed client (command.Put key value) answer s = change_allowed s (change.Put key value) (reply.Put (next (front s))) refl refl (λ is. ap (λ (t : Txn). needed t (command.Put key value)) is) (λ is. subst (λ (t : Txn). AsksFor t (command.Put key value) (entry.Write (change.Put key value ∷ []) ∷ [])) (sym is) refl) refl (λ is here. (is, here)) (λ by busy. busy) (λ opened. opened)
-due_allowed client (command.Del key) answer s = change_allowed s (change.Del key) (reply.Del (next (front s))) refl refl (λ is. ap (λ (t : Txn). needed t (command.Del key)) is) (λ is. subst (λ (t : Txn). AsksFor t (command.Del key) (entry.Write (change.Del key ∷ []) ∷ [])) (sym is) refl) refl (λ is here. (is, here)) (λ by busy. busy) (λ opened. opened)
+due_allowed client (command.Put key value) answer s = change_allowed s (change.Put key value) (reply.Put (next (front s))) refl refl (λ is. ap (λ (t : Txn). needed t (command.Put key value)) is) (λ is. subst (λ (t : Txn). AsksFor t (command.Put key value) (entry.Write (change.Put key value ∷ []) ∷ [])) (sym is) refl) refl (λ is here. (is, here)) (λ by new busy. (new, busy)) (λ n conflicts. conflicts) (λ opened. opened)
+due_allowed client (command.Del key) answer s = change_allowed s (change.Del key) (reply.Del (next (front s))) refl refl (λ is. ap (λ (t : Txn). needed t (command.Del key)) is) (λ is. subst (λ (t : Txn). AsksFor t (command.Del key) (entry.Write (change.Del key ∷ []) ∷ [])) (sym is) refl) refl (λ is here. (is, here)) (λ by new busy. (new, busy)) (λ n conflicts. conflicts) (λ opened. opened)
 due_allowed client (command.Get key) answer s = get_allowed key s
 due_allowed client (command.GetAt key label) answer s = get_at_allowed key label s
 due_allowed client (command.Snap label) answer s = snap_allowed label s
 due_allowed client (command.Free label) answer s = free_allowed label s
 due_allowed client (command.Begin name) answer s = begin_allowed name s
+due_allowed client command.Pin answer s = pin_allowed s
+due_allowed client (command.Lock key) answer s = lock_allowed key s
 due_allowed client command.Prepare answer s = prepare_allowed s
 due_allowed client command.Commit answer s = commit_allowed s
 due_allowed client command.Rollback answer s = rollback_allowed s
@@ -268,6 +376,16 @@ staged_within : (n : ℕ) (txn : Txn) (change : Change) → TxnIsWithin n txn �
 staged_within n Idle change within = within
 staged_within n (Open own) change within = within
 staged_within n (Prepared p) change within = within
+
+locked_within : (n : ℕ) (txn : Txn) (key : List ℕ) → TxnIsWithin n txn → TxnIsWithin n (with_locked_key txn key)
+locked_within n Idle key within = within
+locked_within n (Open own) key within = within
+locked_within n (Prepared p) key within = within
+
+pinned_within : (n : ℕ) (txn : Txn) (pin : ℕ) → TxnIsWithin n txn → TxnIsWithin n (with_pin txn pin)
+pinned_within n Idle pin within = within
+pinned_within n (Open own) pin within = within
+pinned_within n (Prepared p) pin within = within
 
 txn_more : (n m : ℕ) (txn : Txn) → n ≤ m → TxnIsWithin n txn → TxnIsWithin m txn
 txn_more n m Idle le within = tt
@@ -293,6 +411,9 @@ prepared_fresh client other n s allowed = refl
 txn_within : (client : Client) (c : Command) (answer : Reply) (s : Scene client c answer) → IsAllowed s → TxnIsWithin s.given.after client.txn → TxnIsWithin s.given.after (client_after (front s) client c answer).txn
 txn_within client (command.Put key value) reply.Held s allowed within = staged_within s.given.after client.txn (change.Put key value) within
 txn_within client (command.Del key) reply.Held s allowed within = staged_within s.given.after client.txn (change.Del key) within
+txn_within client (command.Lock key) (reply.Got value n) s allowed within = locked_within s.given.after client.txn key within
+txn_within client (command.Lock key) (reply.Missing n) s allowed within = locked_within s.given.after client.txn key within
+txn_within client c (reply.Pinned n) s allowed within = pinned_within s.given.after client.txn n within
 txn_within client (command.Begin name) reply.Begun s allowed within = tt
 txn_within client (command.Take name) reply.Took s allowed within = omega (arith, taken_within (front s) (command.Take name), front_size s, s.given.grows)
 txn_within client c (reply.Prepared n) s allowed within = (subst (λ (o : Option ℕ). IfSome o (λ m. (s.given.before ≤ m) × (m ≤ s.given.after))) (prepared_fresh client c n s allowed) s.given.fresh).1
@@ -312,6 +433,36 @@ labels_low client (command.Snap label) (reply.Snapped n) s = from_same s.evidenc
 labels_low client (command.Free label) reply.Freed s = from_filter s.evidence.base _ client.snapshots s.labels
 labels_low client c answer s = s.labels
 
+staged_low : (base : ℕ) (txn : Txn) (change : Change) → AllByRecursion (λ n. base ≤ n) (pins_of txn) → AllByRecursion (λ n. base ≤ n) (pins_of (with_staged txn change))
+staged_low base Idle change low = low
+staged_low base (Open own) change low = low
+staged_low base (Prepared p) change low = low
+
+locked_low : (base : ℕ) (txn : Txn) (key : List ℕ) → AllByRecursion (λ n. base ≤ n) (pins_of txn) → AllByRecursion (λ n. base ≤ n) (pins_of (with_locked_key txn key))
+locked_low base Idle key low = low
+locked_low base (Open own) key low = low
+locked_low base (Prepared p) key low = low
+
+pinned_low : (base : ℕ) (txn : Txn) (n : ℕ) → base ≤ n → AllByRecursion (λ n. base ≤ n) (pins_of txn) → AllByRecursion (λ n. base ≤ n) (pins_of (with_pin txn n))
+pinned_low base Idle n from low = low
+pinned_low base (Open own) n from low = (from, tt)
+pinned_low base (Prepared p) n from low = low
+
+pins_low : (client : Client) (c : Command) (answer : Reply) (s : Scene client c answer) → IsAllowed s → AllByRecursion (λ n. s.evidence.base ≤ n) (pins_of (client_after (front s) client c answer).txn)
+pins_low client (command.Put key value) reply.Held s allowed = staged_low s.evidence.base client.txn (change.Put key value) s.pins
+pins_low client (command.Del key) reply.Held s allowed = staged_low s.evidence.base client.txn (change.Del key) s.pins
+pins_low client (command.Lock key) (reply.Got value n) s allowed = locked_low s.evidence.base client.txn key s.pins
+pins_low client (command.Lock key) (reply.Missing n) s allowed = locked_low s.evidence.base client.txn key s.pins
+pins_low client c (reply.Pinned n) s allowed = let late = pinned_late s.evidence s.progress client (taken (front s) c) c n allowed in pinned_low s.evidence.base client.txn n (omega (arith, s.based, late)) s.pins
+pins_low client (command.Begin name) reply.Begun s allowed = tt
+pins_low client (command.Take name) reply.Took s allowed = tt
+pins_low client c (reply.Prepared n) s allowed = tt
+pins_low client c (reply.Committed n) s allowed = tt
+pins_low client c reply.Dropped s allowed = tt
+pins_low client c (reply.RolledBack n) s allowed = tt
+pins_low client c reply.Left s allowed = tt
+pins_low client c answer s allowed = s.pins
+
 last_low : (base last before after : ℕ) (number : Option ℕ) → base ≤ last → last ≤ before → IfSome number (λ n. (before ≤ n) × (n ≤ after)) → base ≤ unwrap_or number last
 last_low base last before after (Some n) low earlier fresh = omega (arith, low, earlier, fresh.0)
 last_low base last before after None low earlier fresh = low
@@ -320,12 +471,12 @@ last_within : (last before after : ℕ) (number : Option ℕ) → last ≤ befor
 last_within last before after (Some n) low grows fresh = fresh.1
 last_within last before after None low grows fresh = omega (arith, low, grows)
 
-pub due_session : (e : Evidence) (from : ℕ) (progress : Progress) (client : Client) (cs : List Command) (rs : List Reply) → e.base ≤ progress.last → progress.last ≤ from → AreFrom e.base client.snapshots → TxnIsWithin from client.txn → AreWithin from client.snapshots → AreDueFrom e from progress client cs rs → IsSession e progress client cs rs
-due_session e from progress client [] [] based low labels txn snapshots due = tt
-due_session e from progress client [] (r ∷ rs) based low labels txn snapshots due = absurd due
-due_session e from progress client (c ∷ cs) [] based low labels txn snapshots due = absurd due
-due_session e from progress client (c ∷ cs) (r ∷ rs) based low labels txn snapshots (given, rest) =
-    let s : Scene client c r = record { evidence = e; from = from; progress = progress; based = based; low = low; labels = labels; txn = txn; snapshots = snapshots; given = given } in
+pub due_session : (e : Evidence) (from : ℕ) (progress : Progress) (client : Client) (cs : List Command) (rs : List Reply) → e.base ≤ progress.last → progress.last ≤ from → AreFrom e.base client.snapshots → AllByRecursion (λ n. e.base ≤ n) (pins_of client.txn) → TxnIsWithin from client.txn → AreWithin from client.snapshots → AreDueFrom e from progress client cs rs → IsSession e progress client cs rs
+due_session e from progress client [] [] based low labels pins txn snapshots due = tt
+due_session e from progress client [] (r ∷ rs) based low labels pins txn snapshots due = absurd due
+due_session e from progress client (c ∷ cs) [] based low labels pins txn snapshots due = absurd due
+due_session e from progress client (c ∷ cs) (r ∷ rs) based low labels pins txn snapshots (given, rest) =
+    let s : Scene client c r = record { evidence = e; from = from; progress = progress; based = based; low = low; labels = labels; pins = pins; txn = txn; snapshots = snapshots; given = given } in
     let later : from ≤ given.after = omega (arith, given.earlier, given.grows) in
     let allowed = due_allowed client c r s in (
       taken (take given.before e.history) c,
@@ -334,6 +485,7 @@ due_session e from progress client (c ∷ cs) (r ∷ rs) based low labels txn sn
           (last_low e.base progress.last given.before given.after (fresh_in c r) based (omega (arith, low, given.earlier)) given.fresh)
           (last_within progress.last given.before given.after (fresh_in c r) (omega (arith, low, given.earlier)) given.grows given.fresh)
           (subst (AreFrom e.base) (sym (snapshots_after (taken (take given.before e.history) c) client c r)) (labels_low client c r s))
+          (pins_low client c r s allowed)
           (txn_within client c r s allowed (txn_more from given.after client.txn later txn))
           (subst (AreWithin given.after) (sym (snapshots_after (taken (take given.before e.history) c) client c r)) (labels_within client c r s (within_more from given.after client.snapshots later snapshots)))
           rest,

@@ -19,10 +19,9 @@ use Rattle.wp_text.specs.declared.script.Command.TheVariants as command
 use Rattle.wp_text.specs.declared.reply.Reply.{Reply}
 use Rattle.wp_text.specs.declared.reply.Reply.TheVariants as reply
 use Rattle.wp_replies.specs.declared.client.LabelledSnapshot.{LabelledSnapshot}
-use Rattle.wp_replies.specs.declared.client.Txn.{Txn}
-use Rattle.wp_replies.specs.declared.client.Txn.TheVariants.{Idle, Open, Prepared}
+use Rattle.wp_replies.specs.Txn.{Txn, Idle, Open, Prepared}
 use Rattle.wp_replies.specs.Alike.{AreFrom}
-use Rattle.wp_replies.specs.Client.{Client, numbers_of, live_of}
+use Rattle.wp_replies.specs.Client.{Client, numbers_of, pins_of, live_of}
 use Rattle.wp_replies.specs.Kind.{calls_log, is_fault, is_installed, is_tables_fault}
 use Rattle.wp_replies.specs.Replies.{LogStopped, OtherCompacted, IsKnown, refusal_of, AsksFor, FailsFlush, FailsCompaction, FailsRenewal, IsCompactionCount, HasNothingToMerge, IsHaltedAt}
 use Rattle.wp_replies.specs.Due.{unless_halted, flushed, due, IsReply}
@@ -106,6 +105,9 @@ among_back : (front back : List ℕ) (n : ℕ) → is_among back n ≡ true → 
 among_back [] back n is = is
 among_back (m ∷ front) back n is = or_right (m == n) (is_among (front ++ back) n) (among_back front back n is)
 
+live_from : {client : Client} {c : Command} {answer : Reply} (s : Scene client c answer) → AllByRecursion (λ n. s.evidence.base ≤ n) (live_of client)
+live_from {client = client} s = joined_from s.evidence.base (numbers_of client.snapshots) (pins_of client.txn) (numbers_from s.evidence.base client.snapshots s.labels) s.pins
+
 compaction_fails : {client : Client} {answer : Reply} (s : Scene client command.Compact answer) → nat_lt s.given.devices.installed.tables 2 ≡ false → is_tables_fault answer ≡ true → FailsCompaction s.evidence s.progress.last client
 compaction_fails {client = client} s enough f =
     let asked = s.given.asked_edit f in record {
@@ -114,7 +116,7 @@ compaction_fails {client = client} s enough f =
       two = rw (← asked.1) (ltb-false _ _ enough);
       live = live_of client;
       own = λ n is. is;
-      from_base = among_from s.evidence.base (live_of client) (numbers_from s.evidence.base client.snapshots s.labels);
+      from_base = among_from s.evidence.base (live_of client) (live_from s);
       edit = rw (at_front s, ← asked.1) asked.0;
     }
 
@@ -159,7 +161,7 @@ compact_allowed {client = client} s =
         let stored = s.given.known.stored in
         let low : base ≤ s.given.before = omega (arith, s.based, s.low, s.given.earlier) in
         let there : HasKeysAt (front s) base keys = λ key value is. has key value (sym (value_in_front s.evidence.history key base s.given.before low) ∙ is) in
-        let all = joined_from base (live_of client) (base ∷ s.given.devices.installed.segment.base ∷ []) (numbers_from base client.snapshots s.labels) (omega arith, (stored.from_base, tt)) in
+        let all = joined_from base (live_of client) (base ∷ s.given.devices.installed.segment.base ∷ []) (live_from s) (omega arith, (stored.from_base, tt)) in
         let bound = own_few (front s) (cut_at (front s) base) s.given.devices.installed.versions numbers keys stored.legal (record { within = stored.within; whole = stored.whole; is = refl }) stored.order
         (record {
           above = stored.within;

@@ -1,6 +1,7 @@
 -- A command's reply that is due at a moment of a history, and when the table allows it.
 use Rattle.std.proofs.Common.{◌≡◌, ℕ, zero, suc, ◌+◌, ◌≤◌, ◌<◌, Bool, true, false, ◌||◌, List, [], ◌∷◌, ◌++◌, length, take, drop, Option, Some, None, refl, sym, ap, ◌∙◌, subst, arith, inl, inr}
 use Rattle.std.specs.Prelude.{slice_get, nat_lt}
+use Rattle.std.specs.List.{AllByRecursion}
 use Rattle.std.proofs.lemmas.Bool.{cases_Bool, ltb-true}
 use Rattle.std.proofs.lemmas.List.{take-append-drop}
 use Rattle.wp_model.specs.declared.entry.Entry.{Entry}
@@ -9,17 +10,16 @@ use Rattle.wp_text.specs.declared.script.Command.{Command}
 use Rattle.wp_text.specs.declared.script.Command.TheVariants as command
 use Rattle.wp_text.specs.declared.reply.Reply.{Reply}
 use Rattle.wp_text.specs.declared.reply.Reply.TheVariants as reply
-use Rattle.wp_replies.specs.declared.client.Txn.{Txn}
-use Rattle.wp_replies.specs.declared.client.Txn.TheVariants.{Idle, Open, Prepared}
+use Rattle.wp_replies.specs.Txn.{Txn, Idle, Open, Prepared}
 use Rattle.wp_replies.specs.declared.plan.Plan.{Plan}
 use Rattle.wp_replies.specs.declared.plan.Plan.TheVariants.{Say, Log}
 use Rattle.wp_replies.specs.Alike.{AreFrom}
-use Rattle.wp_replies.specs.Client.{Client, AreWithin}
+use Rattle.wp_replies.specs.Client.{Client, pins_of, AreWithin}
 use Rattle.wp_replies.specs.Kind.{Kind, Logged, kind, is_logged, says_logged, is_fault, is_installed, says_installed, calls_log}
 use Rattle.wp_replies.specs.Progress.{Progress}
 use Rattle.wp_replies.specs.Replies.{LogStopped, Evidence, IsKnown, refusal_of, IsFresh, IsLoggedAt, TxnIsWithin, needed, AsksFor, HadBase, RenewsSomething, Condition, UnlessRefused, Allows}
-use Rattle.wp_replies.specs.Plan.{plan, asked_of, next}
-use Rattle.wp_replies.specs.Due.{Store, logged, reply_to, due, IsReply, logged_entries, taken}
+use Rattle.wp_replies.specs.Plan.{asked_of, next}
+use Rattle.wp_replies.specs.Due.{Store, plan_in, logged, reply_to, due, IsReply, logged_entries, taken}
 use Rattle.wp_replies.specs.Moments.{store_at, IsDueFrom}
 use Rattle.wp_replies.proofs.Conditions.{slice_get_more}
 
@@ -65,6 +65,7 @@ pub record Scene (client : Client) (c : Command) (answer : Reply) : Type 0 where
   pub based : evidence.base ≤ progress.last
   pub low : progress.last ≤ from
   pub labels : AreFrom evidence.base client.snapshots
+  pub pins : AllByRecursion (λ n. evidence.base ≤ n) (pins_of client.txn)
   pub txn : TxnIsWithin from client.txn
   pub snapshots : AreWithin from client.snapshots
   pub given : IsDueFrom evidence from progress client c answer
@@ -112,10 +113,10 @@ answered {client = client} {c = c} {answer = answer} s made is plain = by s.give
     by (inr (inr fault)) = let installs : is_installed made ≡ true = subst (λ (r : Reply). is_installed r ≡ true) is fault.1 in absurd (nor_of (calls_log made) (is_installed made) plain installs)
 
 -- likewise where the plan says it
-said : {client : Client} {c : Command} {answer : Reply} (s : Scene client c answer) (made : Reply) → plan (front s) client c ≡ Say made → may_fail made ≡ false → answer ≡ made
+said : {client : Client} {c : Command} {answer : Reply} (s : Scene client c answer) (made : Reply) → plan_in (store_in s) client c ≡ Say made → may_fail made ≡ false → answer ≡ made
 said {client = client} s made is plain = answered s made (ap (reply_to (store_in s) client) is) plain
 
-pub say_refused : {client : Client} {c : Command} {answer : Reply} (s : Scene client c answer) (made : Reply) → plan (front s) client c ≡ Say made → may_fail made ≡ false → refusal_of client c ≡ Some made → IsAllowed s
+pub say_refused : {client : Client} {c : Command} {answer : Reply} (s : Scene client c answer) (made : Reply) → plan_in (store_in s) client c ≡ Say made → may_fail made ≡ false → refusal_of client c ≡ Some made → IsAllowed s
 say_refused {client = client} {c = c} {answer = answer} s made is plain refused = subst (λ (o : Option Reply). UnlessRefused o answer (ConditionOf s answer)) (sym refused) (said s made is plain)
 
 -- the base of the devices is the one of so many entries
@@ -125,7 +126,7 @@ had_base s = subst (λ (n : ℕ). HadBase s.evidence s.progress n s.given.device
 pub by_condition : {client : Client} {c : Command} {answer : Reply} (s : Scene client c answer) → refusal_of client c ≡ None → ConditionOf s answer → IsAllowed s
 by_condition {client = client} {c = c} {answer = answer} s free condition = subst (λ (o : Option Reply). UnlessRefused o answer (ConditionOf s answer)) (sym free) condition
 
-pub say_allowed : {client : Client} {c : Command} {answer : Reply} (s : Scene client c answer) (made : Reply) → plan (front s) client c ≡ Say made → may_fail made ≡ false → refusal_of client c ≡ None → ConditionOf s made → IsAllowed s
+pub say_allowed : {client : Client} {c : Command} {answer : Reply} (s : Scene client c answer) (made : Reply) → plan_in (store_in s) client c ≡ Say made → may_fail made ≡ false → refusal_of client c ≡ None → ConditionOf s made → IsAllowed s
 say_allowed s made is plain free condition = by_condition s free (subst (ConditionOf s) (sym (said s made is plain)) condition)
 
 pub board_allowed : {client : Client} {c : Command} {answer : Reply} (s : Scene client c answer) (made : Reply) → due (store_in s) client c ≡ made → may_fail made ≡ false → refusal_of client c ≡ None → ConditionOf s made → IsAllowed s
@@ -154,7 +155,7 @@ needs_no_renewal e (Prepared p) command.Renew some = absurd (omega (arith, some)
 needs_no_renewal e txn other some = tt
 
 -- the log takes so many entries, and the reply is this one; or it refuses them
-pub log_allowed : {client : Client} {c : Command} {answer : Reply} (s : Scene client c answer) (count : ℕ) (made : Reply) → refusal_of client c ≡ None → needed client.txn c ≡ count → 1 ≤ count → AsksFor client.txn c (asked_of (plan (front s) client c))
+pub log_allowed : {client : Client} {c : Command} {answer : Reply} (s : Scene client c answer) (count : ℕ) (made : Reply) → refusal_of client c ≡ None → needed client.txn c ≡ count → 1 ≤ count → AsksFor client.txn c (asked_of (plan_in (store_in s) client c))
     → due (store_in s) client c ≡ logged (store_in s) count made → is_logged made ≡ true → (answer ≡ made → ConditionOf s made) → IsAllowed s
 log_allowed {client = client} {c = c} {answer = answer} s count made free needs some asks due_is logs condition = by_condition s free (by s.given.replied)
   where
@@ -184,13 +185,13 @@ log_allowed {client = client} {c = c} {answer = answer} s count made free needs 
     by (inr (inr fault)) = let installs : is_installed (logged (store_in s) count made) ≡ true = subst (λ (r : Reply). is_installed r ≡ true) due_is fault.1 in absurd (logged_uninstalled (store_in s) count made logs installs)
 
 -- the entries of a reply that acknowledges them
-pub entries_in : {client : Client} {c : Command} {answer : Reply} (s : Scene client c answer) (p : Plan) (made : Reply) → plan (front s) client c ≡ p → is_logged made ≡ true → answer ≡ made → take s.given.after s.evidence.history ≡ front s ++ asked_of p
+pub entries_in : {client : Client} {c : Command} {answer : Reply} (s : Scene client c answer) (p : Plan) (made : Reply) → plan_in (store_in s) client c ≡ p → is_logged made ≡ true → answer ≡ made → take s.given.after s.evidence.history ≡ front s ++ asked_of p
 entries_in {client = client} {c = c} s p made is logs answered =
     let all : take s.given.after s.evidence.history ≡ front s ++ logged_entries (store_in s) client c made = subst (λ (r : Reply). take s.given.after s.evidence.history ≡ front s ++ logged_entries (store_in s) client c r) answered s.given.logged in
     rw (logs, is) at all
 
 -- a plan with one entry
-pub one_allowed : {client : Client} {c : Command} {answer : Reply} (s : Scene client c answer) (e : Entry) (made : Reply) → plan (front s) client c ≡ Log e made → is_logged made ≡ true → refusal_of client c ≡ None → needed client.txn c ≡ 1 → AsksFor client.txn c (e ∷ [])
+pub one_allowed : {client : Client} {c : Command} {answer : Reply} (s : Scene client c answer) (e : Entry) (made : Reply) → plan_in (store_in s) client c ≡ Log e made → is_logged made ≡ true → refusal_of client c ≡ None → needed client.txn c ≡ 1 → AsksFor client.txn c (e ∷ [])
     → (IsLoggedAt s.evidence.history s.progress.last (next (front s)) e → ConditionOf s made) → IsAllowed s
 one_allowed {client = client} {c = c} s e made is logs free needs asks condition =
     log_allowed s 1 made free needs (omega arith) (subst (AsksFor client.txn c) (sym (ap asked_of is)) asks) (ap (reply_to (store_in s) client) is) logs (λ answered.

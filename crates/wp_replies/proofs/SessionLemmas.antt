@@ -1,28 +1,25 @@
 -- What is true of every session: of its reads, its numbers and its entries.
-use Rattle.std.proofs.Common.{◌≡◌, ℕ, suc, zero, ◌≤◌, List, [], ◌∷◌, length, Option, Some, None, refl, sym, ap, ◌∙◌, subst, arith, inl, inr}
+use Rattle.std.proofs.Common.{◌≡◌, ℕ, List, [], ◌∷◌, length, Option, Some, None, refl, sym, ap, ◌∙◌, subst, arith, inl, inr}
 use Rattle.std.specs.Prelude.{IfSome, is_some, nat_le}
 use Rattle.std.proofs.lemmas.Bool.{cases_Bool}
-use Rattle.std.proofs.lemmas.Option.{slice_get_within}
 use Rattle.wp_model.specs.declared.entry.Entry.{Entry}
 use Rattle.wp_model.specs.declared.entry.Entry.TheVariants as entry
 use Rattle.wp_model.specs.declared.change.Change.TheVariants as change
-use Rattle.wp_model.specs.History.{entry_at}
 use Rattle.wp_text.specs.declared.script.Command.{Command}
 use Rattle.wp_text.specs.declared.script.Command.TheVariants as command
 use Rattle.wp_text.specs.declared.reply.Reply.{Reply}
 use Rattle.wp_text.specs.declared.reply.Reply.TheVariants as reply
 use Rattle.wp_replies.specs.declared.client.TheConstants.{MOST_SNAPSHOTS}
 use Rattle.wp_replies.specs.declared.client.LabelledSnapshot.{LabelledSnapshot}
-use Rattle.wp_replies.specs.declared.client.Txn.{Txn}
-use Rattle.wp_replies.specs.declared.client.Txn.TheVariants.{Idle, Open, Prepared}
+use Rattle.wp_replies.specs.Txn.{Txn, Idle, Open, Prepared}
 use Rattle.wp_replies.specs.Client.{Client, number_of, has_no_room}
 use Rattle.wp_replies.specs.After.{after_reply}
 use Rattle.wp_replies.specs.Kind.{Plain, kind, number_in, number_of_kind, numbers_logged, acknowledged, fresh_in, last_after}
 use Rattle.wp_replies.specs.Progress.{Progress, progress_after}
-use Rattle.wp_replies.specs.Replies.{Evidence, refuses_change, unless_idle, unless_open, unless_prepared, if_idle, unless_labelled, refuses_label, refusal_of, IsFresh, IsLoggedAt, PreparesAt, CommitsAt, RollsBackAt, Condition, UnlessRefused, Allows}
+use Rattle.wp_replies.specs.Replies.{Evidence, refuses_change, refuses_lock, unless_idle, unless_open, unless_prepared, if_idle, unless_labelled, refuses_label, refusal_of, IsFresh, IsLoggedAt, PreparesAt, CommitsAt, RollsBackAt, Condition, UnlessRefused, Allows}
 use Rattle.wp_replies.specs.Session.{IsSession}
 use Rattle.wp_replies.specs.Laws.{ReadsValue, AreReads, NeverFall, AsksLog, AreAsked, Takes, AreLogged}
-use Rattle.wp_replies.proofs.Conditions.{snapshots_after}
+use Rattle.wp_replies.proofs.Conditions.{entry_within, snapshots_after}
 
 -- ---- refusals speak of no entry
 
@@ -31,8 +28,13 @@ IsPlainIfSome refusal = IfSome refusal (λ r. kind r ≡ Plain)
 
 change_plain : (txn : Txn) (key : List ℕ) → IsPlainIfSome (refuses_change txn key)
 change_plain Idle key = tt
-change_plain (Open own) key = elim (cases_Bool (has_no_room own.batch key)) [ inl full ↦ rw full refl | inr room ↦ rw room tt ]
+change_plain (Open own) key = elim (cases_Bool (has_no_room own key)) [ inl full ↦ rw full refl | inr room ↦ rw room tt ]
 change_plain (Prepared p) key = refl
+
+lock_plain : (txn : Txn) (key : List ℕ) → IsPlainIfSome (refuses_lock txn key)
+lock_plain Idle key = refl
+lock_plain (Open own) key = elim (cases_Bool (has_no_room own key)) [ inl full ↦ rw full refl | inr room ↦ rw room tt ]
+lock_plain (Prepared p) key = refl
 
 labelled_plain : (number : Option ℕ) (label : List ℕ) → IsPlainIfSome (unless_labelled number label)
 labelled_plain (Some n) label = tt
@@ -57,6 +59,8 @@ refusal_plain client (command.GetAt key label) = labelled_plain (number_of clien
 refusal_plain client (command.Snap label) = label_plain client.snapshots label
 refusal_plain client (command.Free label) = labelled_plain (number_of client.snapshots label) label
 refusal_plain client (command.Begin name) = (idle_plain client.txn).0
+refusal_plain client command.Pin = (idle_plain client.txn).1
+refusal_plain client (command.Lock key) = lock_plain client.txn key
 refusal_plain client command.Prepare = (idle_plain client.txn).1
 refusal_plain client command.Commit = (idle_plain client.txn).3
 refusal_plain client command.Rollback = (idle_plain client.txn).3
@@ -74,6 +78,8 @@ allowed_gives Q (Some refusal) r condition plain by_condition by_kind allowed = 
 allowed_read : (e : Evidence) (progress : Progress) (client : Client) (p : ℕ) (c : Command) (r : Reply) → Allows e progress client p c r → ReadsValue e.history progress.last client.snapshots c r
 allowed_read e progress client p (command.Get key) (reply.Got value n) a = (a.1, a.2)
 allowed_read e progress client p (command.Get key) (reply.Missing n) a = (a.1, a.2)
+allowed_read e progress client p (command.Lock key) (reply.Got value n) a = allowed_gives _ (refuses_lock client.txn key) (reply.Got value n) _ (lock_plain client.txn key) (λ condition. (condition.1, condition.2)) (λ plain. absurd cc) a
+allowed_read e progress client p (command.Lock key) (reply.Missing n) a = allowed_gives _ (refuses_lock client.txn key) (reply.Missing n) _ (lock_plain client.txn key) (λ condition. (condition.1, condition.2)) (λ plain. absurd cc) a
 allowed_read e progress client p (command.GetAt key label) (reply.Got value n) a = allowed_gives _ (unless_labelled (number_of client.snapshots label) label) (reply.Got value n) _ (labelled_plain (number_of client.snapshots label) label) (λ condition. (condition.0.0, condition.0.1, condition.1)) (λ plain. absurd cc) a
 allowed_read e progress client p (command.GetAt key label) (reply.Missing n) a = allowed_gives _ (unless_labelled (number_of client.snapshots label) label) (reply.Missing n) _ (labelled_plain (number_of client.snapshots label) label) (λ condition. (condition.0.0, condition.0.1, condition.1)) (λ plain. absurd cc) a
 allowed_read e progress client p c r a = tt
@@ -89,21 +95,17 @@ session_reads e progress client (c ∷ cs) (r ∷ rs) (p, allowed, rest) = (
 
 -- ---- numbers
 
-entry_within : (h : List Entry) (n : ℕ) (e : Entry) → entry_at h n ≡ Some e → n ≤ length h
-entry_within h zero e is = omega arith
-entry_within h (suc n) e is = omega (arith, slice_get_within h n e is)
-
 logged_fresh : (h : List Entry) (last n : ℕ) (e : Entry) → IsLoggedAt h last n e → IsFresh h last n
 logged_fresh h last n e l = (omega (arith, l.0), entry_within h n e l.1)
 
-prepares_fresh : (h : List Entry) (last : ℕ) (txn : Txn) (n : ℕ) → PreparesAt h last txn n → IsFresh h last n
-prepares_fresh h last (Open own) n l = logged_fresh h last n _ l
-prepares_fresh h last _ n l = absurd l
+prepares_fresh : (h : List Entry) (progress : Progress) (txn : Txn) (n : ℕ) → PreparesAt h progress txn n → IsFresh h progress.last n
+prepares_fresh h progress (Open own) n l = logged_fresh h progress.last n _ l.0
+prepares_fresh h progress _ n l = absurd l
 
-commits_fresh : (h : List Entry) (last : ℕ) (txn : Txn) (n : ℕ) → CommitsAt h last txn n → IsFresh h last n
-commits_fresh h last Idle n l = absurd l
-commits_fresh h last (Open own) n l = logged_fresh h last n _ l
-commits_fresh h last (Prepared p) n l = logged_fresh h last n _ l
+commits_fresh : (h : List Entry) (progress : Progress) (txn : Txn) (n : ℕ) → CommitsAt h progress txn n → IsFresh h progress.last n
+commits_fresh h progress Idle n l = absurd l
+commits_fresh h progress (Open own) n l = logged_fresh h progress.last n _ l.0
+commits_fresh h progress (Prepared p) n l = logged_fresh h progress.last n _ l
 
 rolls_fresh : (h : List Entry) (last : ℕ) (txn : Txn) (n : ℕ) → RollsBackAt h last txn n → IsFresh h last n
 rolls_fresh h last (Prepared p) n l = logged_fresh h last n _ l.0
@@ -120,15 +122,19 @@ condition_fresh e progress client p (reply.Del n) (command.Del key) k = logged_f
 condition_fresh e progress client p (reply.Del n) c k = absurd k
 condition_fresh e progress client p (reply.Got value n) (command.Get key) k = k.1
 condition_fresh e progress client p (reply.Got value n) (command.GetAt key label) k = tt
+condition_fresh e progress client p (reply.Got value n) (command.Lock key) k = k.1
 condition_fresh e progress client p (reply.Got value n) c k = absurd k
 condition_fresh e progress client p (reply.Missing n) (command.Get key) k = k.1
 condition_fresh e progress client p (reply.Missing n) (command.GetAt key label) k = tt
+condition_fresh e progress client p (reply.Missing n) (command.Lock key) k = k.1
 condition_fresh e progress client p (reply.Missing n) c k = absurd k
 condition_fresh e progress client p (reply.Snapped n) (command.Snap label) k = k
 condition_fresh e progress client p (reply.Snapped n) c k = absurd k
-condition_fresh e progress client p (reply.Prepared n) command.Prepare k = prepares_fresh e.history progress.last client.txn n k
+condition_fresh e progress client p (reply.Pinned n) command.Pin k = k
+condition_fresh e progress client p (reply.Pinned n) c k = absurd k
+condition_fresh e progress client p (reply.Prepared n) command.Prepare k = prepares_fresh e.history progress client.txn n k
 condition_fresh e progress client p (reply.Prepared n) c k = absurd k
-condition_fresh e progress client p (reply.Committed n) command.Commit k = commits_fresh e.history progress.last client.txn n k
+condition_fresh e progress client p (reply.Committed n) command.Commit k = commits_fresh e.history progress client.txn n k
 condition_fresh e progress client p (reply.Committed n) c k = absurd k
 condition_fresh e progress client p (reply.RolledBack n) command.Rollback k = rolls_fresh e.history progress.last client.txn n k
 condition_fresh e progress client p (reply.RolledBack n) c k = absurd k
@@ -160,14 +166,14 @@ session_numbers e progress client (c ∷ cs) (r ∷ rs) (p, allowed, rest) = (
 
 -- ---- entries
 
-prepares_asked : (h : List Entry) (last : ℕ) (txn : Txn) (n : ℕ) → PreparesAt h last txn n → AreAsked h last txn command.Prepare (n ∷ [])
-prepares_asked h last (Open own) n l = ((_, l, refl), tt)
-prepares_asked h last _ n l = absurd l
+prepares_asked : (h : List Entry) (progress : Progress) (txn : Txn) (n : ℕ) → PreparesAt h progress txn n → AreAsked h progress.last txn command.Prepare (n ∷ [])
+prepares_asked h progress (Open own) n l = ((_, l.0, refl), tt)
+prepares_asked h progress _ n l = absurd l
 
-commits_asked : (h : List Entry) (last : ℕ) (txn : Txn) (n : ℕ) → CommitsAt h last txn n → AreAsked h last txn command.Commit (n ∷ [])
-commits_asked h last Idle n l = absurd l
-commits_asked h last (Open own) n l = ((_, l, refl), tt)
-commits_asked h last (Prepared p) n l = ((_, l, refl), tt)
+commits_asked : (h : List Entry) (progress : Progress) (txn : Txn) (n : ℕ) → CommitsAt h progress txn n → AreAsked h progress.last txn command.Commit (n ∷ [])
+commits_asked h progress Idle n l = absurd l
+commits_asked h progress (Open own) n l = ((_, l.0, refl), tt)
+commits_asked h progress (Prepared p) n l = ((_, l, refl), tt)
 
 rolls_asked : (h : List Entry) (last : ℕ) (txn : Txn) (n : ℕ) → RollsBackAt h last txn n → AreAsked h last txn command.Rollback (acknowledged (reply.RolledBack n))
 rolls_asked h last (Prepared p) n (closed, (batch, undone)) = ((_, undone, inr (batch, refl)), ((_, closed, inl refl), tt))
@@ -178,9 +184,9 @@ condition_asked e progress client p (reply.Put n) (command.Put key value) k = ((
 condition_asked e progress client p (reply.Put n) c k = absurd k
 condition_asked e progress client p (reply.Del n) (command.Del key) k = ((entry.Write (change.Del key ∷ []), k.1, subst (λ (t : Txn). AsksLog t (command.Del key) (entry.Write (change.Del key ∷ []))) (sym k.0) refl), tt)
 condition_asked e progress client p (reply.Del n) c k = absurd k
-condition_asked e progress client p (reply.Prepared n) command.Prepare k = prepares_asked e.history progress.last client.txn n k
+condition_asked e progress client p (reply.Prepared n) command.Prepare k = prepares_asked e.history progress client.txn n k
 condition_asked e progress client p (reply.Prepared n) c k = absurd k
-condition_asked e progress client p (reply.Committed n) command.Commit k = commits_asked e.history progress.last client.txn n k
+condition_asked e progress client p (reply.Committed n) command.Commit k = commits_asked e.history progress client.txn n k
 condition_asked e progress client p (reply.Committed n) c k = absurd k
 condition_asked e progress client p (reply.RolledBack n) command.Rollback k = rolls_asked e.history progress.last client.txn n k
 condition_asked e progress client p (reply.RolledBack n) c k = absurd k

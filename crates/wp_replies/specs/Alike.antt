@@ -1,14 +1,15 @@
 -- What rows look at of a history: nothing from below the base of the log that the store was opened from.
-use Rattle.std.specs.Prelude.{◌≡◌, ◌⊎◌, ℕ, ◌<◌, ◌≤◌, true, List, [], ◌∷◌, length, take, Some}
+use Rattle.std.specs.Prelude.{◌≡◌, ◌⊎◌, ℕ, ◌<◌, ◌≤◌, true, List, [], ◌∷◌, length, take, Some, IfSome}
+use Rattle.std.specs.List.{AllByRecursion}
 use Rattle.wp_model.specs.declared.entry.Entry.{Entry}
 use Rattle.wp_model.specs.declared.version.Version.{Version}
 use Rattle.wp_model.specs.Decision.{entry_version}
 use Rattle.wp_model.specs.History.{is_undecided}
 use Rattle.wp_cuts.specs.Agree.{TellAlike}
 use Rattle.wp_replies.specs.declared.client.LabelledSnapshot.{LabelledSnapshot}
-use Rattle.wp_replies.specs.declared.client.Txn.{Txn}
-use Rattle.wp_replies.specs.declared.client.Txn.TheVariants.{Prepared}
+use Rattle.wp_replies.specs.Txn.{Txn, Open, Prepared}
 use Rattle.wp_replies.specs.Client.{Client}
+use Rattle.wp_replies.specs.Progress.{Progress}
 use Rattle.wp_replies.specs.Replies.{WasFlushed, Evidence, IsKnown}
 
 -- each of these versions is the history's
@@ -28,8 +29,9 @@ pub record IsLike (evidence : Evidence) (other : List Entry) : Type 0 where
   pub versions : HasEach evidence.history evidence.installed.versions
   pub also : HasEach other evidence.installed.versions
 
--- the prepared transaction is behind the base, or was undecided at a number from there on
+-- the open transaction's pin is from the base on; the prepared one is behind it, or was undecided at a number from there on
 abbrev pub TxnIsFrom : ℕ → List Entry → Txn → Type 0
+TxnIsFrom base history (Open own) = IfSome own.pin (λ pin. base ≤ pin)
 TxnIsFrom base history (Prepared p) = (base < p) ⊎ ((n : ℕ) × (base ≤ n) × (n ≤ length history) × (is_undecided (take n history) p ≡ true))
 TxnIsFrom base history other = Unit {0}
 
@@ -38,8 +40,9 @@ abbrev pub AreFrom : ℕ → List LabelledSnapshot → Type 0
 AreFrom base [] = Unit {0}
 AreFrom base (first ∷ others) = (base ≤ first.number) × AreFrom base others
 
--- all that the client has is from the base on
-pub record IsFrom (base : ℕ) (history : List Entry) (n : ℕ) (client : Client) : Type 0 where
-  pub last : base ≤ n
+-- all that the client has and knows is from the base on
+pub record IsFrom (base : ℕ) (history : List Entry) (progress : Progress) (client : Client) : Type 0 where
+  pub last : base ≤ progress.last
   pub txn : TxnIsFrom base history client.txn
   pub snapshots : AreFrom base client.snapshots
+  pub keys : AllByRecursion (λ k. base ≤ k.told) progress.keys

@@ -5,16 +5,16 @@ use Rattle.wp_model.specs.Flushed.{InstalledEdit}
 use Rattle.wp_text.specs.declared.script.Command.{Command}
 use Rattle.wp_text.specs.declared.reply.Reply.{Reply}
 use Rattle.wp_replies.specs.Client.{Client}
-use Rattle.wp_replies.specs.Due.{Store, edit_of, store_after, client_after}
-use Rattle.wp_replies.specs.Plan.{plan, asked_of}
+use Rattle.wp_replies.specs.Due.{Store, plan_in, edit_of, store_after, client_after}
+use Rattle.wp_replies.specs.Plan.{asked_of}
 
 -- the command asks the log for these entries
 abbrev pub AsksLog : List Entry → Store → Client → Command → Type 0
-AsksLog entries store client command = entries ≡ asked_of (plan store.history client command)
+AsksLog entries store client command = entries ≡ asked_of (plan_in store client command)
 
 -- it asks the tables for this edit, which in a renewal names a place of the log
 abbrev pub AsksTables : InstalledEdit → Store → Client → Command → Type 0
-AsksTables edit store client command = (place : ℕ) × (edit ≡ edit_of place store client (plan store.history client command))
+AsksTables edit store client command = (place : ℕ) × (edit ≡ edit_of place store client (plan_in store client command))
 
 -- likewise, where it came as far as an edit
 abbrev pub AsksEdit : Option InstalledEdit → Store → Client → Command → Type 0

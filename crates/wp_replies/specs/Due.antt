@@ -10,6 +10,7 @@ use Rattle.wp_text.specs.declared.script.Command.{Command}
 use Rattle.wp_text.specs.declared.script.Command.TheVariants as command
 use Rattle.wp_text.specs.declared.reply.Reply.{Reply}
 use Rattle.wp_text.specs.declared.reply.Reply.TheVariants as reply
+use Rattle.wp_replies.specs.Txn.{Txn, Open, LockedKeys}
 use Rattle.wp_replies.specs.declared.plan.Plan.{Plan}
 use Rattle.wp_replies.specs.declared.plan.Plan.TheVariants.{Say, Log, RollBack, Flush, Compact, Renew, Tell, Hear}
 use Rattle.wp_replies.specs.Client.{Client, live_of}
@@ -28,6 +29,7 @@ pub record Store : Type 0 where
   pub installed : InstalledEdit  -- the last edit of the tables
   pub halted : Bool  -- the manifest's device or the tables' has failed
   pub board : Labels  -- what was told last under each label
+  pub locked : List LockedKeys  -- of the transactions that were prepared since the opening
 
 -- ---- the reply
 
@@ -77,9 +79,13 @@ reply_to store client Renew = unless_halted store (renewed store)
 reply_to store client (Tell label) = reply.Told (length store.history)
 reply_to store client (Hear label) = heard (length store.history) (map.get store.board label) label
 
+-- what the command comes to
+abbrev pub plan_in : Store → Client → Command → Plan
+plan_in store client command = plan store.history store.locked client command
+
 -- the reply that is due where no device fails
 abbrev pub due : Store → Client → Command → Reply
-due store client command = reply_to store client (plan store.history client command)
+due store client command = reply_to store client (plan_in store client command)
 
 -- The reply is the one that is due; or the log's device failed as it took the command's entries or was renewed, or the manifest's
 -- device or the tables' as they took the command's edit.
@@ -93,7 +99,7 @@ IsReply store client command answer =
 
 -- the entries that are in the history once the reply is given
 abbrev pub logged_entries : Store → Client → Command → Reply → List Entry
-logged_entries store client command answer = if is_logged answer then asked_of (plan store.history client command) else []
+logged_entries store client command answer = if is_logged answer then asked_of (plan_in store client command) else []
 
 -- The edit that a plan has the tables take. A renewal puts the log's segment at a place that the history does not tell.
 abbrev pub edit_of : (place : ℕ) → Store → Client → Plan → InstalledEdit
@@ -104,12 +110,17 @@ edit_of place store client other = store.installed
 
 -- the last edit once the reply is given
 abbrev pub installed_edit : (place : ℕ) → Store → Client → Command → Reply → InstalledEdit
-installed_edit place store client command answer = if is_installed answer then edit_of place store client (plan store.history client command) else store.installed
+installed_edit place store client command answer = if is_installed answer then edit_of place store client (plan_in store client command) else store.installed
 
 -- the board once the reply is given: what was told takes the place of what the label had
 abbrev pub board_after : Labels → Command → Reply → Labels
 board_after board (command.Tell label) (reply.Told n) = map.insert board label n
 board_after board command answer = board
+
+-- the locked keys once the reply is given: a prepare keeps those of its transaction
+abbrev pub locked_after : List LockedKeys → Txn → Reply → List LockedKeys
+locked_after locked (Open own) (reply.Prepared n) = locked ++ record { number = n; keys = own.locked } ∷ []
+locked_after locked txn answer = locked
 
 -- the store once the reply is given, where a renewal puts the log's segment at this place
 abbrev pub store_after : (place : ℕ) → Store → Client → Command → Reply → Store
@@ -120,6 +131,7 @@ store_after place store client command answer = record store {
   installed = installed_edit place store client command answer;
   halted = if is_tables_fault answer then true else store.halted;
   board = board_after store.board command answer;
+  locked = locked_after store.locked client.txn answer;
 }
 
 -- the prepare that a command takes

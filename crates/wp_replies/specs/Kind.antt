@@ -26,6 +26,7 @@ kind (reply.RolledBack n) = Logged n 2
 kind (reply.Got value n) = Published n
 kind (reply.Missing n) = Published n
 kind (reply.Snapped n) = Published n
+kind (reply.Pinned n) = Published n
 kind (reply.Unknown name n) = Published n
 kind (reply.Told n) = Published n
 kind (reply.Heard n) = Published n

@@ -1,5 +1,5 @@
 -- What is known of the others: what one history says, and what all clients were answered.
-use Rattle.std.specs.Prelude.{ℕ, ◌==◌, ◌&&◌, ◌||◌, Bool, false, not, nat_le, List, [], ◌∷◌, length, Option, Some, None}
+use Rattle.std.specs.Prelude.{ℕ, ◌==◌, ◌&&◌, ◌||◌, Bool, true, false, not, nat_le, List, [], ◌∷◌, length, Option, Some, None}
 use Rattle.std.specs.List.{filter, flat_map, list_any}
 use Rattle.std.specs.Str.{bytes_eq}
 use Rattle.wp_model.specs.declared.entry.Entry.{Entry}
@@ -9,13 +9,12 @@ use Rattle.wp_text.specs.declared.script.Command.TheVariants as command
 use Rattle.wp_text.specs.declared.script.Part.{Part}
 use Rattle.wp_text.specs.declared.reply.Reply.{Reply}
 use Rattle.wp_text.specs.declared.reply.Reply.TheVariants as reply
-use Rattle.wp_replies.specs.declared.client.Txn.{Txn}
-use Rattle.wp_replies.specs.declared.client.Txn.TheVariants.{Idle, Open}
+use Rattle.wp_replies.specs.Txn.{Txn, Idle, Open}
 use Rattle.wp_replies.specs.Client.{Client, new_client}
 use Rattle.wp_replies.specs.After.{after_reply}
 use Rattle.wp_replies.specs.Kind.{is_flushed, is_based, is_renewed_between, is_compacted, is_tables_fault, stops_log}
 use Rattle.wp_replies.specs.Progress.{Progress}
-use Rattle.wp_replies.specs.Replies.{Claim, HasName, HasTaken, HasKey, WritesKey, WasTold, LogStopped, WasFlushed, WasBase, NoneRenewed, TablesFailed, OtherCompacted, Untaken, Limits, Evidence}
+use Rattle.wp_replies.specs.Replies.{Claim, HasName, HasTaken, HasKey, WasLocked, WritesKey, WasTold, LogStopped, WasFlushed, WasBase, NoneRenewed, TablesFailed, OtherCompacted, Untaken, Limits, Evidence}
 
 -- what a store has on its devices: a history, and the last edit of the tables
 pub record StoredState : Type 0 where
@@ -24,7 +23,7 @@ pub record StoredState : Type 0 where
 
 -- what a client knows as its session begins
 abbrev pub known_at_first : StoredState → Progress
-known_at_first found = record { last = length found.history; tables = found.edit.tables; base = found.edit.segment.base; labels = [] }
+known_at_first found = record { last = length found.history; tables = found.edit.tables; base = found.edit.segment.base; labels = []; keys = [] }
 
 -- a client with its commands, and the replies to the first of these
 pub record Dialogue : Type 0 where
@@ -73,20 +72,34 @@ takes_name name txn (command.Take other) (Some reply.Took) = bytes_eq other name
 takes_name name txn command answer = false
 
 -- it puts or deletes the key
-abbrev pub changes_key : List ℕ → Command → Bool
-changes_key key (command.Put other value) = bytes_eq other key
-changes_key key (command.Del other) = bytes_eq other key
-changes_key key command = false
+abbrev pub asks_change : List ℕ → Command → Bool
+asks_change key (command.Put other value) = bytes_eq other key
+asks_change key (command.Del other) = bytes_eq other key
+asks_change key command = false
 
--- it was answered `held` for the key, in the open transaction of that name
+-- it asks an open transaction for the key
+abbrev pub asks_key : List ℕ → Command → Bool
+asks_key key (command.Lock other) = bytes_eq other key
+asks_key key command = asks_change key command
+
+-- the key was locked for the transaction, if only to be found changed
+abbrev pub says_locked : Reply → Bool
+says_locked reply.Held = true
+says_locked (reply.Got value n) = true
+says_locked (reply.Missing n) = true
+says_locked (reply.Conflict n) = true
+says_locked other = false
+
+-- it came to lock the key for the open transaction of that name; where memory was wanting for the value of a lock, it may have come so far
 abbrev pub stages_key : (name key : List ℕ) → Txn → Command → Option Reply → Bool
-stages_key name key (Open own) command (Some reply.Held) = bytes_eq own.name name && changes_key key command
+stages_key name key (Open own) command (Some answer) = bytes_eq own.name name && (asks_key key command && says_locked answer)
+stages_key name key (Open own) (command.Lock other) None = bytes_eq own.name name && bytes_eq other key
 stages_key name key txn command answer = false
 
 -- it writes the key at once, and is not answered that somebody else holds it
 abbrev pub writes_key : List ℕ → Txn → Command → Option Reply → Bool
 writes_key key Idle command (Some (reply.Busy holder)) = false
-writes_key key Idle command answer = changes_key key command
+writes_key key Idle command answer = asks_change key command
 writes_key key txn command answer = false
 
 -- it was answered `told` for the label, with a number of at most n
@@ -102,6 +115,7 @@ abbrev pub is_said : List Entry → StoredState → List Dialogue → List Dialo
 is_said history found all others (HasName name) = one_comes_to (gets_name name) others
 is_said history found all others (HasTaken name) = one_comes_to (takes_name name) others
 is_said history found all others (HasKey name key) = one_comes_to (stages_key name key) others
+is_said history found all others (WasLocked name key) = one_comes_to (stages_key name key) all
 is_said history found all others (WritesKey name key) = one_comes_to (writes_key key) (filter (λ d. bytes_eq d.part.client name) others)
 is_said history found all others (WasTold label n) = one_comes_to (tells label n) all
 is_said history found all others (LogStopped n) = (n == length history) && list_any has_stop all

@@ -1,5 +1,6 @@
 -- What is true of every session.
 use Rattle.std.specs.Prelude.{◌≡◌, ◌⊎◌, ℕ, ◌≤◌, Bool, true, List, [], ◌∷◌, ◌++◌, length, Some, None, IfSome}
+use Rattle.std.specs.List.{AllByRecursion}
 use Rattle.wp_model.specs.declared.change.Change.{Change}
 use Rattle.wp_model.specs.declared.change.Change.TheVariants as change
 use Rattle.wp_model.specs.declared.entry.Entry.{Entry}
@@ -10,8 +11,7 @@ use Rattle.wp_text.specs.declared.script.Command.TheVariants as command
 use Rattle.wp_text.specs.declared.reply.Reply.{Reply}
 use Rattle.wp_text.specs.declared.reply.Reply.TheVariants as reply
 use Rattle.wp_replies.specs.declared.client.LabelledSnapshot.{LabelledSnapshot}
-use Rattle.wp_replies.specs.declared.client.Txn.{Txn}
-use Rattle.wp_replies.specs.declared.client.Txn.TheVariants.{Idle, Open, Prepared}
+use Rattle.wp_replies.specs.Txn.{Txn, Idle, Open, Prepared}
 use Rattle.wp_replies.specs.Client.{Client, new_client, number_of}
 use Rattle.wp_replies.specs.After.{labels_after, after_reply}
 use Rattle.wp_replies.specs.Kind.{acknowledged, fresh_in, last_after}
@@ -23,7 +23,7 @@ use Rattle.wp_replies.specs.Session.{IsSession}
 
 -- ---- the relation
 
--- A session stays one as the history grows, and as more is known of the others.
+-- A session stays one as the history grows, where what was known of the others is known still.
 abbrev pub SessionGrows : Type 0
 SessionGrows = (evidence : Evidence) (more : List Entry) (later : Claim → Bool) (progress : Progress) (client : Client) (commands : List Command) (answers : List Reply)
     → evidence.base ≤ length evidence.history
@@ -42,14 +42,14 @@ DueIsSession = (evidence : Evidence) (from : ℕ) (progress : Progress) (command
 -- Where the two are full lists of one cut, with the same values at its base, they tell alike.
 abbrev pub SessionsTellAlike : Type 0
 SessionsTellAlike = (evidence : Evidence) (other : List Entry) (progress : Progress) (commands : List Command) (answers : List Reply)
-    → IsLike evidence other → evidence.base ≤ progress.last
+    → IsLike evidence other → evidence.base ≤ progress.last → AllByRecursion (λ k. evidence.base ≤ k.told) progress.keys
     → IsSession evidence progress new_client commands answers
     → IsSession (record evidence { history = other }) progress new_client commands answers
 
 -- Likewise each row by itself, where what the client has is from the base on.
 abbrev pub ConditionsTellAlike : Type 0
 ConditionsTellAlike = (evidence : Evidence) (other : List Entry) (progress : Progress) (client : Client) (p : ℕ) (command : Command) (answer : Reply)
-    → IsLike evidence other → IsFrom evidence.base evidence.history progress.last client
+    → IsLike evidence other → IsFrom evidence.base evidence.history progress client
     → Condition evidence progress client p command answer
     → Condition (record evidence { history = other }) progress client p command answer
 
@@ -60,6 +60,8 @@ ConditionsTellAlike = (evidence : Evidence) (other : List Entry) (progress : Pro
 abbrev pub ReadsValue : List Entry → ℕ → List LabelledSnapshot → Command → Reply → Type 0
 ReadsValue history last snapshots (command.Get key) (reply.Got value n) = IsFresh history last n × (value_at history key n ≡ Some value)
 ReadsValue history last snapshots (command.Get key) (reply.Missing n) = IsFresh history last n × (value_at history key n ≡ None)
+ReadsValue history last snapshots (command.Lock key) (reply.Got value n) = IsFresh history last n × (value_at history key n ≡ Some value)
+ReadsValue history last snapshots (command.Lock key) (reply.Missing n) = IsFresh history last n × (value_at history key n ≡ None)
 ReadsValue history last snapshots (command.GetAt key label) (reply.Got value n) = (number_of snapshots label ≡ Some n) × (n ≤ length history) × (value_at history key n ≡ Some value)
 ReadsValue history last snapshots (command.GetAt key label) (reply.Missing n) = (number_of snapshots label ≡ Some n) × (n ≤ length history) × (value_at history key n ≡ None)
 ReadsValue history last snapshots command answer = Unit {0}

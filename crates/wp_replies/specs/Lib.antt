@@ -1,4 +1,5 @@
 pub mod Kind
+pub mod Txn
 pub mod Progress
 pub mod Client
 pub mod After

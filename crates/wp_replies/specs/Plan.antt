@@ -1,25 +1,28 @@
 -- What a command comes to where nobody else changes the store: exactly one reply, or the entries that the log is asked to
 -- take and the reply that acknowledges them, or a change of the tables, or the board.
-use Rattle.std.specs.Prelude.{ℕ, ◌+◌, List, [], ◌∷◌, length, Option, Some, None, unwrap_or}
+use Rattle.std.specs.Prelude.{ℕ, ◌+◌, ◌&&◌, Bool, List, [], ◌∷◌, length, Option, Some, None, unwrap_or, if◌then◌else◌}
+use Rattle.std.specs.List.{find}
+use Rattle.std.specs.Option.{option_map, option_or}
 use Rattle.wp_model.specs.declared.change.Change.{Change}
 use Rattle.wp_model.specs.declared.change.Change.TheVariants as change
 use Rattle.wp_model.specs.declared.entry.Entry.{Entry}
 use Rattle.wp_model.specs.declared.entry.Entry.TheVariants as entry
 use Rattle.wp_model.specs.declared.holder.Holder.TheVariants as holder
 use Rattle.wp_model.specs.Batch.{key_of, change_to}
-use Rattle.wp_model.specs.History.{name_at, batch_at, named, holder_of, value_at}
+use Rattle.wp_model.specs.Changed.{conflict}
+use Rattle.wp_model.specs.History.{name_at, batch_at, is_undecided, named, holder_of, value_at}
 use Rattle.wp_model.specs.Legal.{prior}
+use Rattle.wp_model.specs.LockState.{is_among_keys}
 use Rattle.wp_text.specs.declared.script.Command.{Command}
 use Rattle.wp_text.specs.declared.script.Command.TheVariants as command
 use Rattle.wp_text.specs.declared.reply.Reply.{Reply}
 use Rattle.wp_text.specs.declared.reply.Reply.TheVariants as reply
 use Rattle.wp_replies.specs.declared.client.LabelledSnapshot.{LabelledSnapshot}
-use Rattle.wp_replies.specs.declared.client.Txn.{Txn}
-use Rattle.wp_replies.specs.declared.client.Txn.TheVariants.{Idle, Open, Prepared}
+use Rattle.wp_replies.specs.Txn.{Txn, Staged, Idle, Open, Prepared, is_its_key, LockedKeys}
 use Rattle.wp_replies.specs.declared.plan.Plan.{Plan}
 use Rattle.wp_replies.specs.declared.plan.Plan.TheVariants.{Say, Log, RollBack, Flush, Compact, Renew, Tell, Hear}
 use Rattle.wp_replies.specs.Client.{Client, own_batch, number_of}
-use Rattle.wp_replies.specs.Replies.{refuses_change, unless_idle, unless_prepared, unless_labelled, refuses_label}
+use Rattle.wp_replies.specs.Replies.{refuses_change, refuses_lock, unless_idle, unless_open, unless_prepared, unless_labelled, refuses_label}
 
 -- the number of the next entry
 abbrev pub next : List Entry → ℕ
@@ -30,23 +33,48 @@ abbrev pub refused_or : Option Reply → Plan → Plan
 refused_or None plan = plan
 refused_or (Some refusal) plan = Say refusal
 
--- ---- put, del
+-- ---- keys
+
+-- its transaction is undecided, and locked the key
+abbrev pub holds_beyond : List Entry → List ℕ → LockedKeys → Bool
+holds_beyond history key x = is_undecided history x.number && is_among_keys x.keys key
+
+-- the undecided prepare that holds the key: it changes it, or locked it before
+abbrev pub holder_then : List Entry → List LockedKeys → List ℕ → Option ℕ
+holder_then history locked key = option_or (holder_of history key) (option_map (λ x. x.number) (find (holds_beyond history key) locked))
 
 -- busy, where an undecided prepare holds the key
 abbrev pub busy_or : List Entry → Option ℕ → Plan → Plan
 busy_or history None plan = plan
 busy_or history (Some p) plan = Say (reply.Busy (holder.Txn (name_at history p)))
 
-abbrev pub unless_busy : List Entry → List ℕ → Plan → Plan
-unless_busy history key plan = busy_or history (holder_of history key) plan
+abbrev pub unless_busy : List Entry → List LockedKeys → List ℕ → Plan → Plan
+unless_busy history locked key plan = busy_or history (holder_then history locked key) plan
+
+-- a conflict, where an entry changed the key since the pin
+abbrev pub conflict_or : Option ℕ → Plan → Plan
+conflict_or None plan = plan
+conflict_or (Some number) plan = Say (reply.Conflict number)
+
+abbrev pub unless_changed : List Entry → Option ℕ → List ℕ → Plan → Plan
+unless_changed history None key plan = plan
+unless_changed history (Some pin) key plan = conflict_or (conflict history key pin) plan
+
+-- this is said once the open transaction has the key
+abbrev pub with_key_plan : List Entry → List LockedKeys → Staged → List ℕ → Reply → Plan
+with_key_plan history locked own key answer =
+    if is_its_key own key then Say answer
+    else unless_busy history locked key (unless_changed history own.pin key (Say answer))
+
+-- ---- put, del
 
 -- a change is written at once where no transaction is open, and the reply is that one
-abbrev pub written_or_staged : Txn → Change → Reply → Plan
-written_or_staged Idle change answer = Log (entry.Write (change ∷ [])) answer
-written_or_staged other change answer = Say reply.Held
+abbrev pub written_or_staged : List Entry → List LockedKeys → Txn → Change → Reply → Plan
+written_or_staged history locked (Open own) change answer = with_key_plan history locked own (key_of change) reply.Held
+written_or_staged history locked other change answer = unless_busy history locked (key_of change) (Log (entry.Write (change ∷ [])) answer)
 
-abbrev pub change_plan : List Entry → Txn → Change → Reply → Plan
-change_plan history txn change answer = refused_or (refuses_change txn (key_of change)) (unless_busy history (key_of change) (written_or_staged txn change answer))
+abbrev pub change_plan : List Entry → List LockedKeys → Txn → Change → Reply → Plan
+change_plan history locked txn change answer = refused_or (refuses_change txn (key_of change)) (written_or_staged history locked txn change answer)
 
 -- ---- get
 
@@ -65,6 +93,23 @@ get_reply history None key = read_reply (value_at history key (length history)) 
 abbrev pub get_at_reply : List Entry → Option ℕ → List ℕ → List ℕ → Reply
 get_at_reply history None key label = reply.UnknownSnapshot label
 get_at_reply history (Some n) key label = read_reply (value_at history key n) n
+
+-- ---- pin, lock
+
+abbrev pub pin_plan : List Entry → Txn → Plan
+pin_plan history txn = refused_or (unless_open txn) (Say (reply.Pinned (length history)))
+
+-- the transaction's own change comes first: then nothing is locked
+abbrev pub read_or_own : List Entry → List LockedKeys → Staged → Option (Option (List ℕ)) → List ℕ → Plan
+read_or_own history locked own None key = with_key_plan history locked own key (read_reply (value_at history key (length history)) (length history))
+read_or_own history locked own said key = Say (get_reply history said key)
+
+abbrev pub locked_or_state : List Entry → List LockedKeys → Txn → List ℕ → Plan
+locked_or_state history locked (Open own) key = read_or_own history locked own (change_to own.batch key) key
+locked_or_state history locked other key = Say reply.State
+
+abbrev pub lock_plan : List Entry → List LockedKeys → Txn → List ℕ → Plan
+lock_plan history locked txn key = refused_or (refuses_lock txn key) (locked_or_state history locked txn key)
 
 -- ---- snapshots
 
@@ -110,24 +155,26 @@ take_plan history txn name = refused_or (unless_idle txn) (Say (take_reply histo
 
 -- ---- all commands
 
-abbrev pub plan : List Entry → Client → Command → Plan
-plan history client (command.Put key value) = change_plan history client.txn (change.Put key value) (reply.Put (next history))
-plan history client (command.Del key) = change_plan history client.txn (change.Del key) (reply.Del (next history))
-plan history client (command.Get key) = Say (get_reply history (change_to (own_batch history client.txn) key) key)
-plan history client (command.GetAt key label) = Say (get_at_reply history (number_of client.snapshots label) key label)
-plan history client (command.Snap label) = Say (snap_reply history client.snapshots label)
-plan history client (command.Free label) = Say (free_reply (number_of client.snapshots label) label)
-plan history client (command.Begin name) = begin_plan history client.txn name
-plan history client command.Prepare = prepare_plan history client.txn
-plan history client command.Commit = commit_plan history client.txn
-plan history client command.Rollback = rollback_plan history client.txn
-plan history client command.Leave = leave_plan client.txn
-plan history client (command.Take name) = take_plan history client.txn name
-plan history client command.Flush = Flush
-plan history client command.Compact = Compact
-plan history client command.Renew = Renew
-plan history client (command.Tell label) = Tell label
-plan history client (command.Hear label) = Hear label
+abbrev pub plan : List Entry → List LockedKeys → Client → Command → Plan
+plan history locked client (command.Put key value) = change_plan history locked client.txn (change.Put key value) (reply.Put (next history))
+plan history locked client (command.Del key) = change_plan history locked client.txn (change.Del key) (reply.Del (next history))
+plan history locked client (command.Get key) = Say (get_reply history (change_to (own_batch history client.txn) key) key)
+plan history locked client (command.GetAt key label) = Say (get_at_reply history (number_of client.snapshots label) key label)
+plan history locked client (command.Snap label) = Say (snap_reply history client.snapshots label)
+plan history locked client (command.Free label) = Say (free_reply (number_of client.snapshots label) label)
+plan history locked client (command.Begin name) = begin_plan history client.txn name
+plan history locked client command.Pin = pin_plan history client.txn
+plan history locked client (command.Lock key) = lock_plan history locked client.txn key
+plan history locked client command.Prepare = prepare_plan history client.txn
+plan history locked client command.Commit = commit_plan history client.txn
+plan history locked client command.Rollback = rollback_plan history client.txn
+plan history locked client command.Leave = leave_plan client.txn
+plan history locked client (command.Take name) = take_plan history client.txn name
+plan history locked client command.Flush = Flush
+plan history locked client command.Compact = Compact
+plan history locked client command.Renew = Renew
+plan history locked client (command.Tell label) = Tell label
+plan history locked client (command.Hear label) = Hear label
 
 -- the entries that it asks the log to take, as one record
 abbrev pub asked_of : Plan → List Entry

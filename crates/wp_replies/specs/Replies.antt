@@ -1,7 +1,7 @@
 -- The table of replies: each reply is given only where its row says so, over a history, with what is known of the other
--- clients. Each row stays true as the history grows, and as more is known of the others.
+-- clients. Each row stays true as the history grows, where what was known of the others is known still.
 use Rattle.std.specs.Prelude.{◌≡◌, ◌⊎◌, ℕ, ◌+◌, ◌-◌, ◌<◌, ◌≤◌, ◌==◌, Bool, true, false, nat_le, List, [], ◌∷◌, length, take, Option, Some, None, is_some, IfSome, if◌then◌else◌}
-use Rattle.std.specs.List.{list_any}
+use Rattle.std.specs.List.{AllByRecursion, list_any}
 use Rattle.wp_model.specs.declared.change.Change.{Change}
 use Rattle.wp_model.specs.declared.change.Change.TheVariants as change
 use Rattle.wp_model.specs.declared.entry.Entry.{Entry}
@@ -10,6 +10,7 @@ use Rattle.wp_model.specs.declared.holder.Holder.{Holder}
 use Rattle.wp_model.specs.declared.holder.Holder.TheVariants as holder
 use Rattle.wp_model.specs.Batch.{change_to}
 use Rattle.wp_model.specs.Flushed.{InstalledEdit, later_versions}
+use Rattle.wp_model.specs.Changed.{conflict, IsUnchanged}
 use Rattle.wp_model.specs.History.{entry_at, name_at, batch_at, is_undecided, undecided, is_changed, named, value_at}
 use Rattle.wp_cuts.specs.Cut.{carried_of}
 use Rattle.wp_cuts.specs.Kept.{carried_versions, HasKeysAt}
@@ -19,11 +20,10 @@ use Rattle.wp_text.specs.declared.reply.Reply.{Reply}
 use Rattle.wp_text.specs.declared.reply.Reply.TheVariants as reply
 use Rattle.wp_replies.specs.declared.client.TheConstants.{MOST_SNAPSHOTS}
 use Rattle.wp_replies.specs.declared.client.LabelledSnapshot.{LabelledSnapshot}
-use Rattle.wp_replies.specs.declared.client.Txn.{Txn}
-use Rattle.wp_replies.specs.declared.client.Txn.TheVariants.{Idle, Open, Prepared}
+use Rattle.wp_replies.specs.Txn.{Txn, Staged, Idle, Open, Prepared, is_its_key}
 use Rattle.wp_replies.specs.Client.{Client, number_of, live_of, own_batch, has_no_room}
 use Rattle.wp_replies.specs.Kind.{is_renewal}
-use Rattle.wp_replies.specs.Progress.{Progress, knows_label}
+use Rattle.wp_replies.specs.Progress.{ToldKey, Progress, knows_label, is_told}
 use Rattle.wp_replies.specs.Tables.{unflushed, after_flush, listed, after_compaction, after_renewal}
 
 -- ---- what is known of the others
@@ -32,7 +32,8 @@ use Rattle.wp_replies.specs.Tables.{unflushed, after_flush, listed, after_compac
 pub data Claim : Type 0 where
   HasName : List ℕ → Claim  -- another client was answered `begun` or `took` for the name
   HasTaken : List ℕ → Claim  -- another client was answered `took` for the name
-  HasKey : List ℕ → List ℕ → Claim  -- another client was answered `held` for the key, in its open transaction of this name
+  HasKey : List ℕ → List ℕ → Claim  -- another client came to lock the key for its open transaction of this name
+  WasLocked : List ℕ → List ℕ → Claim  -- a client came to lock the key for its open transaction of this name
   WritesKey : List ℕ → List ℕ → Claim  -- another client, of this name, came to write the key at once
   WasTold : List ℕ → ℕ → Claim  -- a client was answered `told` for the label, with a number of at most this
   LogStopped : ℕ → Claim  -- a client was answered `fault log`, or `fault tables` to `renew`, and so many entries are all of the history
@@ -69,8 +70,12 @@ IsKnown evidence claim = evidence.known claim ≡ true
 
 abbrev pub refuses_change : Txn → List ℕ → Option Reply
 refuses_change Idle key = None
-refuses_change (Open own) key = if has_no_room own.batch key then Some reply.TooMany else None
+refuses_change (Open own) key = if has_no_room own key then Some reply.TooMany else None
 refuses_change (Prepared p) key = Some reply.State
+
+abbrev pub refuses_lock : Txn → List ℕ → Option Reply
+refuses_lock (Open own) key = if has_no_room own key then Some reply.TooMany else None
+refuses_lock other key = Some reply.State
 
 abbrev pub unless_idle : Txn → Option Reply
 unless_idle Idle = None
@@ -105,6 +110,8 @@ refusal_of client (command.GetAt key label) = unless_labelled (number_of client.
 refusal_of client (command.Snap label) = refuses_label client.snapshots label
 refusal_of client (command.Free label) = unless_labelled (number_of client.snapshots label) label
 refusal_of client (command.Begin name) = unless_idle client.txn
+refusal_of client command.Pin = unless_open client.txn
+refusal_of client (command.Lock key) = refuses_lock client.txn key
 refusal_of client command.Prepare = unless_open client.txn
 refusal_of client command.Commit = if_idle client.txn
 refusal_of client command.Rollback = if_idle client.txn
@@ -138,13 +145,19 @@ pub record WasUndecided (history : List Entry) (last : ℕ) (name : List ℕ) (p
 abbrev pub HadKey : List Entry → ℕ → (name key : List ℕ) → Type 0
 HadKey history from name key = (p : ℕ) × (was : WasUndecided history from name p) × (is_changed (batch_at (take was.at history) p) key ≡ true)
 
+-- A prepare of that name, made since the opening, was undecided likewise. What was locked for it then stays so, whoever has it.
+abbrev pub WasPreparedSince : Evidence → ℕ → List ℕ → Type 0
+WasPreparedSince evidence last name = (p : ℕ) × WasUndecided evidence.history last name p × (evidence.opened < p)
+
 -- The transaction was undecided, with the key in its batch; or it is another client's, which has the key in it, or took the name,
--- of which a prepare with the key was undecided at a moment since the opening. Or the other client writes the key.
+-- of which a prepare with the key was undecided at a moment since the opening. Or somebody had locked the key for it, and it was
+-- undecided, or another client took it. Or the other client writes the key.
 abbrev pub IsBusy : Evidence → ℕ → List ℕ → Holder → Type 0
 IsBusy evidence last key (holder.Txn name) =
     HadKey evidence.history last name key
     ⊎ IsKnown evidence (HasKey name key)
     ⊎ (IsKnown evidence (HasTaken name) × HadKey evidence.history evidence.opened name key)
+    ⊎ (IsKnown evidence (WasLocked name key) × (WasPreparedSince evidence last name ⊎ IsKnown evidence (HasTaken name)))
 IsBusy evidence last key (holder.Client name) = IsKnown evidence (WritesKey name key)
 
 -- the name was that of an undecided prepare, or it is another client's
@@ -156,6 +169,11 @@ IsNameTaken evidence last name = ((p : ℕ) × WasUndecided evidence.history las
 abbrev pub TxnIsOpen : Txn → Type 0
 TxnIsOpen (Open own) = Unit {0}
 TxnIsOpen other = ⊥
+
+-- the key is none of the open transaction's
+abbrev pub HasNotKey : Txn → List ℕ → Type 0
+HasNotKey (Open own) key = is_its_key own key ≡ false
+HasNotKey other key = Unit {0}
 
 -- the number of a prepared transaction is at most n
 abbrev pub TxnIsWithin : ℕ → Txn → Type 0
@@ -222,17 +240,55 @@ RenewsSomething evidence other = Unit {0}
 abbrev pub HasNothingToRenew : Evidence → ℕ → Type 0
 HasNothingToRenew evidence last = (base : ℕ) × IsKnown evidence (WasBase base) × (last ≤ base)
 
+-- ---- keys that stay as they are
+
+-- The key was changed last by the entry with this number, above the open transaction's pin, when so many entries were published, and the
+-- client had seen nothing later.
+pub record WasChanged (history : List Entry) (last : ℕ) (own : Staged) (key : List ℕ) (number : ℕ) : Type 0 where
+  pub at : ℕ
+  pub fresh : IsFresh history last at
+  pub pin : ℕ
+  pub pinned : own.pin ≡ Some pin
+  pub changed : conflict (take at history) key pin ≡ Some number
+
+-- the transaction is open, the key is none of its own, and was changed so
+abbrev pub ConflictsAt : List Entry → ℕ → Txn → List ℕ → ℕ → Type 0
+ConflictsAt history last (Open own) key number = (is_its_key own key ≡ false) × WasChanged history last own key number
+ConflictsAt history last other key number = ⊥
+
+-- No entry changes the key since a number that is not below the last fresh one that the client was answered before the key came to it,
+-- and not above the first one that it was answered from then on: the number published as the key was locked.
+pub record IsKept (history : List Entry) (k : ToldKey) : Type 0 where
+  pub since : ℕ
+  pub told : k.told ≤ since
+  pub behind : IfSome k.behind (λ later. since ≤ later)
+  pub unchanged : IsUnchanged history k.key since
+
+abbrev pub AreKept : List Entry → List ToldKey → Type 0
+AreKept history keys = AllByRecursion (IsKept history) keys
+
+-- no entry changes a key of the open transaction since its pin
+abbrev pub IsValidated : List Entry → Staged → Type 0
+IsValidated history own = IfSome own.pin (λ pin. (key : List ℕ) → is_its_key own key ≡ true → IsUnchanged history key pin)
+
+-- Each key of the open transaction is one of these, and no entry changes it since it came to the transaction, nor since the pin.
+pub record KeepsKeys (history : List Entry) (own : Staged) (keys : List ToldKey) : Type 0 where
+  pub all : (key : List ℕ) → is_its_key own key ≡ true → is_told keys key ≡ true
+  pub kept : AreKept history keys
+  pub validated : IsValidated history own
+
 -- ---- transactions in the log
 
-abbrev pub PreparesAt : List Entry → ℕ → Txn → ℕ → Type 0
-PreparesAt history last (Open own) n = IsLoggedAt history last n (entry.Prepare own.name own.batch)
-PreparesAt history last other n = ⊥
+-- from an open transaction, whose keys no entry before n changed meanwhile
+abbrev pub PreparesAt : List Entry → Progress → Txn → ℕ → Type 0
+PreparesAt history progress (Open own) n = IsLoggedAt history progress.last n (entry.Prepare own.name own.batch) × KeepsKeys (take (n - 1) history) own progress.keys
+PreparesAt history progress other n = ⊥
 
--- from an open transaction all of its changes are one Write
-abbrev pub CommitsAt : List Entry → ℕ → Txn → ℕ → Type 0
-CommitsAt history last Idle n = ⊥
-CommitsAt history last (Open own) n = IsLoggedAt history last n (entry.Write own.batch)
-CommitsAt history last (Prepared p) n = IsLoggedAt history last n (entry.Commit p)
+-- from an open transaction, of which that is so too, all of its changes are one Write
+abbrev pub CommitsAt : List Entry → Progress → Txn → ℕ → Type 0
+CommitsAt history progress Idle n = ⊥
+CommitsAt history progress (Open own) n = IsLoggedAt history progress.last n (entry.Write own.batch) × KeepsKeys (take (n - 1) history) own progress.keys
+CommitsAt history progress (Prepared p) n = IsLoggedAt history progress.last n (entry.Commit p)
 
 -- n is the number of the Close, right after its Undo
 abbrev pub RollsBackAt : List Entry → ℕ → Txn → ℕ → Type 0
@@ -300,10 +356,12 @@ Condition evidence progress client p command reply.FaultLog = AsksFor client.txn
 Condition evidence progress client p command (reply.Stopped n) = IsOfLog client.txn command × IsFresh evidence.history progress.last n × IsKnown evidence (LogStopped n)
 Condition evidence progress client p (command.Put key value) (reply.Put n) = (client.txn ≡ Idle) × IsLoggedAt evidence.history progress.last n (entry.Write (change.Put key value ∷ []))
 Condition evidence progress client p (command.Put key value) reply.Held = TxnIsOpen client.txn
-Condition evidence progress client p (command.Put key value) (reply.Busy holder) = IsBusy evidence progress.last key holder
+Condition evidence progress client p (command.Put key value) (reply.Busy holder) = HasNotKey client.txn key × IsBusy evidence progress.last key holder
+Condition evidence progress client p (command.Put key value) (reply.Conflict n) = ConflictsAt evidence.history progress.last client.txn key n
 Condition evidence progress client p (command.Del key) (reply.Del n) = (client.txn ≡ Idle) × IsLoggedAt evidence.history progress.last n (entry.Write (change.Del key ∷ []))
 Condition evidence progress client p (command.Del key) reply.Held = TxnIsOpen client.txn
-Condition evidence progress client p (command.Del key) (reply.Busy holder) = IsBusy evidence progress.last key holder
+Condition evidence progress client p (command.Del key) (reply.Busy holder) = HasNotKey client.txn key × IsBusy evidence progress.last key holder
+Condition evidence progress client p (command.Del key) (reply.Conflict n) = ConflictsAt evidence.history progress.last client.txn key n
 Condition evidence progress client p (command.Get key) (reply.Got value n) = OwnSays evidence.history client.txn key None × IsFresh evidence.history progress.last n × (value_at evidence.history key n ≡ Some value)
 Condition evidence progress client p (command.Get key) (reply.Missing n) = OwnSays evidence.history client.txn key None × IsFresh evidence.history progress.last n × (value_at evidence.history key n ≡ None)
 Condition evidence progress client p (command.Get key) (reply.GotOwn value) = OwnSays evidence.history client.txn key (Some (Some value))
@@ -314,8 +372,15 @@ Condition evidence progress client p (command.Snap label) (reply.Snapped n) = Is
 Condition evidence progress client p (command.Free label) reply.Freed = Unit {0}
 Condition evidence progress client p (command.Begin name) reply.Begun = Unit {0}
 Condition evidence progress client p (command.Begin name) (reply.Taken other) = (other ≡ name) × IsNameTaken evidence progress.last name
-Condition evidence progress client p command.Prepare (reply.Prepared n) = PreparesAt evidence.history progress.last client.txn n
-Condition evidence progress client p command.Commit (reply.Committed n) = CommitsAt evidence.history progress.last client.txn n
+Condition evidence progress client p command.Pin (reply.Pinned n) = IsFresh evidence.history progress.last n
+Condition evidence progress client p (command.Lock key) (reply.Got value n) = OwnSays evidence.history client.txn key None × IsFresh evidence.history progress.last n × (value_at evidence.history key n ≡ Some value)
+Condition evidence progress client p (command.Lock key) (reply.Missing n) = OwnSays evidence.history client.txn key None × IsFresh evidence.history progress.last n × (value_at evidence.history key n ≡ None)
+Condition evidence progress client p (command.Lock key) (reply.GotOwn value) = OwnSays evidence.history client.txn key (Some (Some value))
+Condition evidence progress client p (command.Lock key) reply.MissingOwn = OwnSays evidence.history client.txn key (Some None)
+Condition evidence progress client p (command.Lock key) (reply.Busy holder) = HasNotKey client.txn key × IsBusy evidence progress.last key holder
+Condition evidence progress client p (command.Lock key) (reply.Conflict n) = ConflictsAt evidence.history progress.last client.txn key n
+Condition evidence progress client p command.Prepare (reply.Prepared n) = PreparesAt evidence.history progress client.txn n
+Condition evidence progress client p command.Commit (reply.Committed n) = CommitsAt evidence.history progress client.txn n
 Condition evidence progress client p command.Rollback reply.Dropped = TxnIsOpen client.txn
 Condition evidence progress client p command.Rollback (reply.RolledBack n) = RollsBackAt evidence.history progress.last client.txn n
 Condition evidence progress client p command.Leave reply.Left = Unit {0}

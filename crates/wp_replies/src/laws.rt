@@ -3,7 +3,7 @@ ghost use Rattle.std.specs.Prelude.{◌≡◌};
 ghost use Rattle.wp_replies.specs.declared.client.TheConstants.{MOST_SNAPSHOTS};
 ghost use Rattle.wp_replies.specs.Laws.{SessionGrows, SessionsTellAlike, ConditionsTellAlike, DueIsSession, ReadsAreValues, FreshNumbersNeverFall, AcknowledgedAreLogged};
 
-/// A session stays one as the history grows, and as more is known of the other clients.
+/// A session stays one as the history grows, where what was known of the other clients is known still.
 pub fn session_grows()
     ensures { SessionGrows }
 {}

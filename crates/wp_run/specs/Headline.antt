@@ -41,7 +41,8 @@ pub record Headline (s : Serving) (faults : Faults) (run : List Part) : Type 0 w
   pub store : List (List ℕ × List ℕ)
   pub store_is : IsBaseStore left.history found.edit.segment.base store
   -- Each client's replies to its commands are a session that the table of replies allows over the one history that is left. What
-  -- is read is what its first n entries leave, what is acknowledged is an entry of it, and fresh numbers never fall.
+  -- is read is what its first n entries leave, what is acknowledged is an entry of it, and fresh numbers never fall. No key of an open
+  -- transaction is changed by others before its entry.
   pub failed : Untaken  -- the record, or the edit, that a device failed to take
   pub replies : List (List Reply)
   pub limits : Limits

@@ -44,6 +44,7 @@ named_text named.Tell = codes "tell"
 named_text named.Hear = codes "hear"
 
 abbrev pub bare_text : Bare → List ℕ
+bare_text bare.Pin = codes "pin"
 bare_text bare.Prepare = codes "prepare"
 bare_text bare.Commit = codes "commit"
 bare_text bare.Rollback = codes "rollback"
@@ -58,6 +59,7 @@ keyword_text (keyword.Bare word) = bare_text word
 keyword_text keyword.Put = codes "put"
 keyword_text keyword.Del = codes "del"
 keyword_text keyword.Get = codes "get"
+keyword_text keyword.Lock = codes "lock"
 
 unfoldable pub keyword_named : List ℕ → Option Keyword
 keyword_named word = find (λ keyword. bytes_eq (keyword_text keyword) word) KEYWORDS
@@ -94,6 +96,7 @@ said_of named.Hear name = statement.Command (command.Hear name)
 
 -- the command of one word
 abbrev pub bare_command : Bare → Command
+bare_command bare.Pin = command.Pin
 bare_command bare.Prepare = command.Prepare
 bare_command bare.Commit = command.Commit
 bare_command bare.Rollback = command.Rollback
@@ -115,6 +118,9 @@ statement_with keyword.Del words = do
   key ← one_word MOST_KEY_BYTES words
   Ok (statement.Command (command.Del key))
 statement_with keyword.Get words = get_with words
+statement_with keyword.Lock words = do
+  key ← one_word MOST_KEY_BYTES words
+  Ok (statement.Command (command.Lock key))
 
 -- the same where the first word names a keyword
 unfoldable pub statement_named : Option Keyword → List (List ℕ) → Result (Option Statement) Why

@@ -16,6 +16,7 @@ pub(crate) enum Named {
 /// The first word of a command that takes no word.
 #[derive(Clone, Copy)]
 pub(crate) enum Bare {
+    Pin,
     Prepare,
     Commit,
     Rollback,
@@ -33,9 +34,10 @@ pub(crate) enum Keyword {
     Put,
     Del,
     Get,
+    Lock,
 }
 
-const KEYWORDS: [Keyword; 17] = [
+const KEYWORDS: [Keyword; 19] = [
     Keyword::Named(Named::Client),
     Keyword::Put,
     Keyword::Del,
@@ -43,6 +45,8 @@ const KEYWORDS: [Keyword; 17] = [
     Keyword::Named(Named::Snap),
     Keyword::Named(Named::Free),
     Keyword::Named(Named::Begin),
+    Keyword::Bare(Bare::Pin),
+    Keyword::Lock,
     Keyword::Bare(Bare::Prepare),
     Keyword::Bare(Bare::Commit),
     Keyword::Bare(Bare::Rollback),
@@ -76,6 +80,7 @@ impl Bare {
         ensures { result.now ≡ bare_text self }
     {
         match self {
+            Bare::Pin => b"pin",
             Bare::Prepare => b"prepare",
             Bare::Commit => b"commit",
             Bare::Rollback => b"rollback",
@@ -97,6 +102,7 @@ impl Keyword {
             Keyword::Put => b"put",
             Keyword::Del => b"del",
             Keyword::Get => b"get",
+            Keyword::Lock => b"lock",
         }
     }
 

@@ -117,6 +117,7 @@ fn bare_command(bare: Bare) -> Command
     ensures { result ≡ bare_command bare }
 {
     match bare {
+        Bare::Pin => Command::Pin,
         Bare::Prepare => Command::Prepare,
         Bare::Commit => Command::Commit,
         Bare::Rollback => Command::Rollback,
@@ -137,6 +138,7 @@ fn statement_with(alloc: Global, keyword: Keyword, words: &[&[u8]]) -> Result<St
         Keyword::Put => put_with(alloc, words),
         Keyword::Del => Ok(Statement::Command(Command::Del(one_word(alloc, words)?))),
         Keyword::Get => get_with(alloc, words),
+        Keyword::Lock => Ok(Statement::Command(Command::Lock(one_word(alloc, words)?))),
     }
 }
 

@@ -9,14 +9,16 @@ pub enum Reply {
     Del(Seq),
     /// The change is in the batch of the client's transaction.
     Held,
-    /// What is committed under the key at this number.
+    /// What is committed under the key at this number, and, where the key was to be locked, stays so until the decision.
     Got(Value, Seq),
-    /// Nothing is committed under the key at this number.
+    /// Nothing is committed under the key at this number, likewise.
     Missing(Seq),
     /// What the client's own transaction puts under the key.
     GotOwn(Value),
     /// The client's own transaction deletes the key.
     MissingOwn,
+    /// The open transaction is pinned, at this number.
+    Pinned(Seq),
     /// The snapshot is taken, at this number.
     Snapped(Seq),
     /// The snapshot is released.
@@ -43,10 +45,12 @@ pub enum Reply {
     State,
     /// The name, of a transaction or a snapshot, is in use.
     Taken(Name),
-    /// The batch has no room for another key, or there is none for another snapshot.
+    /// The transaction has no room for another key, or there is none for another snapshot.
     TooMany,
     /// Another transaction, or another client's direct write, holds the key.
     Busy(Holder),
+    /// The key was changed since the transaction's pin, by the entry with this number last.
+    Conflict(Seq),
     /// At this number no prepared transaction has the name.
     Unknown { name: Name, at: Seq },
     /// A client has the transaction of this name.

@@ -19,6 +19,10 @@ pub enum Command {
     Free(Name),
     /// Begin a transaction of this name.
     Begin(Name),
+    /// Pin the number published: the open transaction commits only what nobody else has changed since.
+    Pin,
+    /// Lock the key for the open transaction, and read it as it is then.
+    Lock(Key),
     /// Prepare the transaction.
     Prepare,
     /// Commit the transaction, prepared or not.

@@ -21,8 +21,8 @@ use Rattle.wp_text.specs.declared.reply.Reply.{Reply}
 use Rattle.wp_text.specs.declared.reply.Reply.TheVariants as reply
 use Rattle.wp_core.specs.Lists.{IsIn}
 use Rattle.wp_core.specs.Sound.Actors.{seen_of}
-use Rattle.wp_core.specs.Sound.Locks.{WasPrepared}
-use Rattle.wp_core.specs.Sound.Pasts.{HasDone, IsPast, MadeHolder, IsAccounted, raised_to, WasInstalled, WasBased, NoneBetween, past_of}
+use Rattle.wp_core.specs.Sound.Locks.{HasKeyAt, WasPrepared, PrepareHas}
+use Rattle.wp_core.specs.Sound.Pasts.{HasDone, IsPast, MadeHolder, IsLockedFor, IsAccounted, raised_to, WasInstalled, WasBased, NoneBetween, past_of}
 use Rattle.wp_core.proofs.Frames.{at_map}
 use Rattle.wp_core.specs.Views.{Account, own, another, prepare_at, Event, claimed, took, locked, told, heard, installed, renewed, log_failed, tables_failed, stopped, based_at, found_edit, found}
 use Rattle.wp_core.specs.World.{Participant}
@@ -32,15 +32,15 @@ use Rattle.wp_parts.specs.Parts.{content}
 use Rattle.wp_parts.specs.Devices.{DevicesLeft}
 use Rattle.wp_shared.specs.Ended.{IsEnded, of_seats}
 use Rattle.wp_shared.specs.Seats.{participant_of, SharedState, SeatState}
-use Rattle.wp_replies.specs.declared.client.Txn as session_txn
+use Rattle.wp_replies.specs.Txn as session_txn
 use Rattle.wp_replies.specs.Client.{new_client}
 use Rattle.wp_replies.specs.Explains.{dialogues, all_replies, judged_by}
 use Rattle.wp_replies.specs.Kind.{is_flushed, is_based, is_renewed_between, is_compacted}
 use Rattle.wp_replies.specs.Known.{Dialogue, has_stop, answers_in, comes_to, gets_name, takes_name, stages_key, writes_key, tells}
-use Rattle.wp_replies.specs.Replies.{WasTold, WasFlushed, WasBase, NoneRenewed, TablesFailed, OtherCompacted, Evidence, IsKnown}
+use Rattle.wp_replies.specs.Replies.{WasLocked, WasTold, WasFlushed, WasBase, NoneRenewed, TablesFailed, OtherCompacted, Evidence, IsKnown, WasUndecided, HadKey}
 use Rattle.wp_client.specs.Alone.{limits_of}
 use Rattle.wp_client.specs.Answers.{IsRemembered}
-use Rattle.wp_client.specs.Agrees.{IsAnother, IsPrepares, KnowsHolder, Knows, Agrees}
+use Rattle.wp_client.specs.Agrees.{IsAnother, IsBeyond, IsPrepares, KnowsHolder, Knows, Agrees}
 use Rattle.wp_threads.specs.Explained.{found_in, left_in, failed_in}
 use Rattle.wp_threads.specs.Over.{Answered, AreOver, replies_of}
 use Rattle.wp_threads.specs.SoFar.{IsFound}
@@ -107,16 +107,29 @@ module _ {D : Type 0} {z : SharedState D} {seats : List SeatState} {history : Li
   other_came k l event ne h = let d = done_by k l event h in (d.1, λ p is. other_did p l d.1.own d.1.there (elsewhere k l d.0 ne) is)
 
   -- the undecided prepare of a name was undecided, and is of that name
-  is_prepared : (from n : ℕ) (name : List ℕ) (key : Option (List ℕ)) → WasPrepared history from n name key → IsPrepares evidence key (Txn name) from
+  is_prepared : (from n : ℕ) (name : List ℕ) (key : Option (List ℕ)) → WasPrepared history from n name key → (p : ℕ) × (was : WasUndecided evidence.history from name p) × HasKeyAt (take was.at evidence.history) p key
   is_prepared from n name key (low, high, (p, is, has)) =
       let f = found_named (take n history) name p is in
       (p, record { at = n; fresh = (low, high); undecided = f.0; named = (bytes_eq-Decides (name_at (take n history) p) name).0 f.1 }, has)
+
+  -- who locked a key for a transaction came to it
+  was_locked : (name key : List ℕ) → IsPast (of_seats past_of seats) (locked key (Txn name)) → IsKnown evidence (WasLocked name key)
+  was_locked name key (j, i, h) = let d = (done_by j i (locked key (Txn name)) h).1 in one_did (λ (x : Dialogue). comes_to (stages_key name key) new_client x.part.commands x.answers) i d.own d.there d.told
+
+  -- the prepare that another client took had the key, or somebody had locked it
+  was_held : (name key : List ℕ) → PrepareHas z.opened history name key ⊎ IsPast (of_seats past_of seats) (locked key (Txn name)) → HadKey evidence.history evidence.opened name key ⊎ IsKnown evidence (WasLocked name key)
+  was_held name key (inl (n, has)) = inl (is_prepared (length z.opened) n name (Some key) has)
+  was_held name key (inr past) = inr (was_locked name key past)
+
+  is_beyond : (p : ℕ) (name : List ℕ) (key : Option (List ℕ)) → length z.opened < p → IsLockedFor (of_seats past_of seats) name key → IsBeyond evidence p name key
+  is_beyond p name None behind none = absurd none
+  is_beyond p name (Some key) behind past = (behind, was_locked name key past)
 
   is_another : (key : Option (List ℕ)) (holder : Holder) → MadeByOther key holder → IsAnother evidence key holder
   is_another None (Txn name) (k, l, ne, inl h) = let o = other_came k l (claimed name) ne h in o.1 (λ (x : Dialogue). comes_to (gets_name name) new_client x.part.commands x.answers) o.0.told
   is_another None (Txn name) (k, l, ne, inr h) = let o = other_came k l (took name) ne h in o.1 (λ (x : Dialogue). comes_to (gets_name name) new_client x.part.commands x.answers) (took_name all l name o.0)
   is_another (Some key) (Txn name) (k, l, ne, inl (begun, h)) = let o = other_came k l (locked key (Txn name)) ne h in inl (o.1 (λ (x : Dialogue). comes_to (stages_key name key) new_client x.part.commands x.answers) o.0.told)
-  is_another (Some key) (Txn name) (k, l, ne, inr (h, (n, has))) = let o = other_came k l (took name) ne h in inr (o.1 (λ (x : Dialogue). comes_to (takes_name name) new_client x.part.commands x.answers) o.0.told, is_prepared (length z.opened) n name (Some key) has)
+  is_another (Some key) (Txn name) (k, l, ne, inr (h, had)) = let o = other_came k l (took name) ne h in inr (o.1 (λ (x : Dialogue). comes_to (takes_name name) new_client x.part.commands x.answers) o.0.told, was_held name key had)
   is_another (Some key) (Client name) (k, l, ne, h) =
       let o = other_came k l (locked key (Client name)) ne h in
       any_filter (λ (x : Dialogue). comes_to (writes_key key) new_client x.part.commands x.answers) (λ (x : Dialogue). bytes_eq x.part.client name) (before ++ after)
@@ -124,7 +137,10 @@ module _ {D : Type 0} {z : SharedState D} {seats : List SeatState} {history : Li
   is_another None (Client name) made = tt
 
   is_prepares : (i : ℕ) (key : Option (List ℕ)) (holder : Holder) (seen n : ℕ) → IsAccounted z.opened history (of_seats past_of seats) 0 i key holder seen (prepare_at n) → IsPrepares evidence key holder seen
-  is_prepares i key (Txn name) seen n was = is_prepared seen n name key was
+  is_prepares i key (Txn name) seen n (inl was) = let k = is_prepared seen n name key was in (k.0, k.1, inl k.2)
+  is_prepares i key (Txn name) seen n (inr ((low, high, (p, behind, is)), past)) =
+      let f = found_named (take n history) name p is in
+      (p, record { at = n; fresh = (low, high); undecided = f.0; named = (bytes_eq-Decides (name_at (take n history) p) name).0 f.1 }, inr (is_beyond p name key behind past))
   is_prepares i key (Client name) seen n none = tt
 
   -- ---- the tables

@@ -8,9 +8,8 @@ use Rattle.wp_text.specs.declared.script.Command.TheVariants as command
 use Rattle.wp_text.specs.declared.reply.Reply.{Reply}
 use Rattle.wp_text.specs.declared.reply.Reply.TheVariants as reply
 use Rattle.wp_core.specs.Views.{Event, claimed, took, locked, told, installed, renewed, log_stopped}
-use Rattle.wp_replies.specs.declared.client.Txn.{Txn}
-use Rattle.wp_replies.specs.declared.client.Txn.TheVariants.{Idle, Open, Prepared}
-use Rattle.wp_replies.specs.After.{with_staged, after_reply}
+use Rattle.wp_replies.specs.Txn.{Txn, Idle, Open, Prepared}
+use Rattle.wp_replies.specs.After.{with_staged, with_locked_key, with_pin, after_reply}
 use Rattle.wp_replies.specs.Client.{Client}
 use Rattle.wp_replies.specs.Known.{gets_name, takes_name, tells}
 use Rattle.wp_client.specs.Answers.{IsExplained}
@@ -32,11 +31,22 @@ alike_by Q same both (Prepared p) (Open own) alike = subst (Q (Prepared p)) alik
 staged_alike : (change : _) (t u : Txn) → IsAlike t u → IsAlike (with_staged t change) (with_staged u change)
 staged_alike change t u alike = alike_by (λ x y. IsAlike (with_staged x change) (with_staged y change)) (λ x. alike_same (with_staged x change)) (λ p q. tt) t u alike
 
+read_alike : (key : List ℕ) (t u : Txn) → IsAlike t u → IsAlike (with_locked_key t key) (with_locked_key u key)
+read_alike key t u alike = alike_by (λ x y. IsAlike (with_locked_key x key) (with_locked_key y key)) (λ x. alike_same (with_locked_key x key)) (λ p q. tt) t u alike
+
+pin_alike : (n : ℕ) (t u : Txn) → IsAlike t u → IsAlike (with_pin t n) (with_pin u n)
+pin_alike n t u alike = alike_by (λ x y. IsAlike (with_pin x n) (with_pin y n)) (λ x. alike_same (with_pin x n)) (λ p q. tt) t u alike
+
 -- a reply leaves them alike
 pub after_alike : (n m : ℕ) (t u : Client) (c : Command) (r : Reply) → IsAlike t.txn u.txn → IsAlike (after_reply n t c r).txn (after_reply m u c r).txn
 after_alike n m t u (command.Put key value) reply.Held alike = staged_alike (change.Put key value) t.txn u.txn alike
 after_alike n m t u (command.Del key) reply.Held alike = staged_alike (change.Del key) t.txn u.txn alike
 after_alike n m t u c reply.Held alike = alike
+after_alike n m t u (command.Lock key) (reply.Got value k) alike = read_alike key t.txn u.txn alike
+after_alike n m t u c (reply.Got value k) alike = alike
+after_alike n m t u (command.Lock key) (reply.Missing k) alike = read_alike key t.txn u.txn alike
+after_alike n m t u c (reply.Missing k) alike = alike
+after_alike n m t u c (reply.Pinned k) alike = pin_alike k t.txn u.txn alike
 after_alike n m t u (command.Begin name) reply.Begun alike = refl
 after_alike n m t u c reply.Begun alike = alike
 after_alike n m t u (command.Take name) reply.Took alike = tt

@@ -8,7 +8,7 @@ use Rattle.std.proofs.lemmas.List.Folds.{list_any-append}
 use Rattle.wp_text.specs.declared.script.Command.{Command}
 use Rattle.wp_text.specs.declared.reply.Reply.{Reply}
 use Rattle.wp_model.proofs.Tests.{both}
-use Rattle.wp_replies.specs.declared.client.Txn.{Txn}
+use Rattle.wp_replies.specs.Txn.{Txn}
 use Rattle.wp_replies.specs.Client.{Client}
 use Rattle.wp_replies.specs.After.{after_reply}
 use Rattle.wp_replies.specs.Kind.{is_based, is_flushed}

@@ -16,7 +16,7 @@ use Rattle.wp_core.specs.Sound.Pasts.{HasDone, past_of}
 use Rattle.wp_core.specs.Views.{Event, took, locked}
 use Rattle.wp_shared.specs.Seats.{SharedState, SeatState, participant_of}
 use Rattle.wp_shared.specs.Ended.{of_seats}
-use Rattle.wp_replies.specs.declared.client.Txn as session_txn
+use Rattle.wp_replies.specs.Txn as session_txn
 use Rattle.wp_replies.specs.Client.{new_client}
 use Rattle.wp_replies.specs.Explains.{dialogue, dialogues}
 use Rattle.wp_replies.specs.Known.{StoredState, Dialogue, comes_to, gets_name, takes_name, writes_key}

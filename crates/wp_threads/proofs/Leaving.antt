@@ -13,7 +13,7 @@ use Rattle.wp_core.specs.Views.{Event, installed, renewed, log_failed, log_stopp
 use Rattle.wp_core.proofs.KeepsSeen.{whole}
 use Rattle.wp_core.proofs.PastsGrow.{in_front}
 use Rattle.wp_shared.specs.Seats.{SharedState, SeatState}
-use Rattle.wp_replies.specs.declared.client.Txn.{Txn}
+use Rattle.wp_replies.specs.Txn.{Txn}
 use Rattle.wp_replies.specs.Client.{Client, new_client}
 use Rattle.wp_replies.specs.Known.{StoredState, known_at_first, comes_to}
 use Rattle.wp_replies.specs.Session.{IsSession}
@@ -115,7 +115,7 @@ module _ {D : Type 0} (z : SharedState D) (found : StoredState) (part : Part) (a
   installs_none (renewed edit) is there = true≢false (sym (ends.explained (renewed edit) there).3)
   installs_none other is there = absurd cc
 
-  ends_alone : RanAlone z found done answered.replies s.knows.participant (client_of h) → EndsAlone z found done answered.replies u.knows.participant
+  ends_alone : RanAlone z found done answered.replies s (client_of h) → EndsAlone z found done answered.replies u.knows.participant
   ends_alone ran = record {
     places = ran.places;
     store = ran.store;

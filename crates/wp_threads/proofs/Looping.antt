@@ -27,7 +27,7 @@ module _ {D : Type 0} (z : SharedState D) (commands : List Command) (i : ℕ) (c
   goes_next next holds found name is_found begun =
       let cut : take (i + 1) commands ≡ take i commands ++ c ∷ [] = take_more commands i c lt ∙ ap (λ (x : Command). take i commands ++ x ∷ []) (sym at) in
       subst (λ (x : List Command × List Reply). IsSessionSoFar z found name x.0 x.1 t k) (λ j. (sym cut j, sym next.1 j))
-      (goes_more z found is_found name (take i commands) before c next.0 s t h k (goes found name is_found begun) next.2 holds (λ only store is. next.3 only found.edit is_found.edit store is))
+      (goes_more z found is_found name (take i commands) before c next.0 s t h k (goes found name is_found begun) next.2 holds (λ only store is locks. next.3 only found.edit is_found.edit store is locks))
 
   pub count_next : length before ≡ i → TakesNext z s t h k c before after true → length after ≡ i + 1
   count_next same next = let all : length after ≡ length (before ++ next.0 ∷ []) = ap (λ (rs : List Reply). length rs) next.1 in let more = length-append before (next.0 ∷ []) in omega (arith, same, all, more)

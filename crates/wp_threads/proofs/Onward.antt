@@ -25,7 +25,7 @@ use Rattle.wp_replies.specs.Kind as kinds
 use Rattle.wp_replies.specs.Known.{StoredState, known_at_first, comes_to, exchanges, is_stop}
 use Rattle.wp_replies.specs.Progress.{progress_after}
 use Rattle.wp_replies.specs.Session.{IsSession}
-use Rattle.wp_client.specs.Alone.{limits_of, IsOnly, IsStoreOf, AnswersAlone}
+use Rattle.wp_client.specs.Alone.{limits_of, IsOnly, IsStoreOf, AreLockedIn, AnswersAlone}
 use Rattle.wp_client.specs.Answers.{explaining, IsExplained, IsRemembered, Stays, Answers}
 use Rattle.wp_client.specs.Holdings.{HoldingsState, client_of, Holds}
 use Rattle.wp_client.proofs.Growing.{agrees_before, in_back}
@@ -76,7 +76,7 @@ module _ {D : Type 0} (z : SharedState D) (found : StoredState) (is_found : IsFo
   regroup : (P : List Command → List Reply → Type 0) (commands : List Command) (others : List Reply) → P (done ++ c ∷ commands) (answers ++ r ∷ others) → P ((done ++ c ∷ []) ++ commands) ((answers ++ r ∷ []) ++ others)
   regroup P commands others is = subst (λ (x : List Command × List Reply). P x.0 x.1) (λ i. (sym (append_assoc done (c ∷ []) commands) i, sym (append_assoc answers (r ∷ []) others) i)) is
 
-  session_more : IsSessionTo z found done answers before was → IsSessionTo z found (done ++ c ∷ []) (answers ++ r ∷ []) after now
+  session_more : IsSessionTo z found done answers s was → IsSessionTo z found (done ++ c ∷ []) (answers ++ r ∷ []) t now
   session_more so = record {
     progress = progress_after so.progress c r;
     is_progress = a.progress found.edit is_found.edit so.progress so.is_progress;
@@ -110,11 +110,12 @@ module _ {D : Type 0} (z : SharedState D) (found : StoredState) (is_found : IsFo
       on : (is_such : Such) (commands : List Command) (others : List Reply) → comes_to is_such so.alike (c ∷ commands) (r ∷ others) ≡ true → comes_to is_such new_client ((done ++ c ∷ []) ++ commands) ((answers ++ r ∷ []) ++ others) ≡ true
       on is_such commands others is = regroup (λ cs rs. comes_to is_such new_client cs rs ≡ true) commands others (so.goes_on is_such (c ∷ commands) (r ∷ others) is)
 
-  alone_more : (ran : RanAlone z found done answers before was) → AnswersAlone z found.edit s t was now c r ran.store → RanAlone z found (done ++ c ∷ []) (answers ++ r ∷ []) after now
+  alone_more : (ran : RanAlone z found done answers s was) → AnswersAlone z found.edit s t was now c r ran.store → RanAlone z found (done ++ c ∷ []) (answers ++ r ∷ []) t now
   alone_more ran did = record {
     places = ran.places ++ did.place ∷ [];
     store = store_after did.place ran.store was c r;
     store_is = did.store_is;
+    locked = did.locked ran.locked;
     ran = subst (RunsAlone (ran.places ++ did.place ∷ []) (opened_store (limits_of z) found) new_client (done ++ c ∷ []) (answers ++ r ∷ []) (store_after did.place ran.store was c r)) (sym did.client)
         (runs_more did.place ran.places (opened_store (limits_of z) found) new_client done answers ran.store was c r ran.ran did.replied);
     asked = λ entries there. ⊎_elim
@@ -133,7 +134,7 @@ module _ {D : Type 0} (z : SharedState D) (found : StoredState) (is_found : IsFo
 
 -- one more reply keeps what goes
 pub goes_more : {D : Type 0} (z : SharedState D) (found : StoredState) (is_found : IsFound z found) (name : List ℕ) (done : List Command) (answers : List Reply) (c : Command) (r : Reply) (s t : SeatState) (h k : HoldingsState) → IsSessionSoFar z found name done answers s h → Answers z s t (client_of h) (client_of k) c r → Holds z t k
-    → (IsOnly s → (store : Store) → IsStoreOf z found.edit s.knows.participant store → AnswersAlone z found.edit s t (client_of h) (client_of k) c r store)
+    → (IsOnly s → (store : Store) → IsStoreOf z found.edit s.knows.participant store → AreLockedIn z s (client_of h).txn store → AnswersAlone z found.edit s t (client_of h) (client_of k) c r store)
     → IsSessionSoFar z found name (done ++ c ∷ []) (answers ++ r ∷ []) t k
 goes_more z found is_found name done answers c r s t h k g a holds alone = record {
   holds = holds;
@@ -150,7 +151,7 @@ goes_more z found is_found name done answers c r s t h k g a holds alone = recor
       (λ (i : IsIn answer answers). remembered_wider s.knows.participant.past t.knows.participant.past answer (λ e x. subst (IsIn e) (sym a.past) (in_front e s.knows.participant.past a.events x)) (g.remembered answer i))
       (λ (i : IsIn answer (r ∷ [])). of_the_last answer i)
       (in_both answer answers (r ∷ []) there);
-  alone = λ only. let ran = g.alone (only_before s t a.stays only) in alone_more z found is_found name done answers c r s t (client_of h) (client_of k) a ran (alone (only_before s t a.stays only) ran.store ran.store_is);
+  alone = λ only. let ran = g.alone (only_before s t a.stays only) in alone_more z found is_found name done answers c r s t (client_of h) (client_of k) a ran (alone (only_before s t a.stays only) ran.store ran.store_is ran.locked);
 }
   where
     of_the_last : (answer : Reply) → IsIn answer (r ∷ []) → IsRemembered t.knows.participant.past answer

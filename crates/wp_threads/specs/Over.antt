@@ -13,7 +13,7 @@ use Rattle.wp_core.specs.Sound.Pasts.{last_installed}
 use Rattle.wp_core.specs.Views.{Event, log_failed, log_stopped, tables_failed}
 use Rattle.wp_core.specs.World.{Participant}
 use Rattle.wp_shared.specs.Seats.{SharedState, SeatState}
-use Rattle.wp_replies.specs.declared.client.Txn.{Txn}
+use Rattle.wp_replies.specs.Txn.{Txn}
 use Rattle.wp_replies.specs.Asked.{AsksLog, AsksTables, FaultAsks}
 use Rattle.wp_replies.specs.Client.{Client, new_client}
 use Rattle.wp_replies.specs.Current.{opened_store, RunsAlone}

@@ -26,8 +26,8 @@ use Rattle.wp_maint.specs.declared.done.Done.{Done}
 use Rattle.wp_maint.specs.declared.error.MaintError.TheVariants.{Nothing, TableFault, TablesStopped}
 use Rattle.wp_compact.specs.Calls.{HasPinned, IsCompactionOf, Compacts}
 use Rattle.wp_replies.specs.declared.client.LabelledSnapshot.{LabelledSnapshot}
-use Rattle.wp_replies.specs.declared.client.Txn.{Txn}
-use Rattle.wp_replies.specs.Client.{Client, numbers_of}
+use Rattle.wp_replies.specs.Txn.{Txn}
+use Rattle.wp_replies.specs.Client.{Client, live_of}
 use Rattle.wp_replies.specs.Due.{Store, compacted}
 use Rattle.wp_replies.specs.Kind.{is_installed}
 use Rattle.wp_replies.specs.Tables.{listed, retained, after_compaction}
@@ -40,16 +40,16 @@ use Rattle.wp_answers.proofs.Alone.TablesFound.{AsksTablesFor, makes_installed, 
 use Rattle.wp_answers.proofs.Alone.Retained.{AreSame, retained_same, compaction_same, contained, containing, numbers_in, number_in, of_number, times_in, numbers_same}
 
 module _ {D : Type 0} (z : SharedState D) (first : InstalledEdit) (old new : SeatState) (only : IsOnly old) (store : Store) (is : IsStoreOf z first old.knows.participant store) (stood : (w : World) × Stands z new w) (was_last : WasLast content z.first first) (txn : Txn) (snapshots : List LabelledSnapshot)
-    (registered : List Registration) (numbered : numbers_in registered ≡ numbers_of snapshots) (just_these : (r : Registration) → times_in r old.knows.participant.registered ≡ times_in r registered) where
+    (registered : List Registration) (numbered : numbers_in registered ≡ live_of (record { txn = txn; snapshots = snapshots })) (just_these : (r : Registration) → times_in r old.knows.participant.registered ≡ times_in r registered) where
   abbrev client : Client
   client = record { txn = txn; snapshots = snapshots }
 
   abbrev ready : Reply
-  ready = compacted store (numbers_of snapshots)
+  ready = compacted store (live_of client)
 
   -- the numbers that it lists
   abbrev mine : List ℕ
-  mine = listed (numbers_of snapshots) store.base store.installed
+  mine = listed (live_of client) store.base store.installed
 
   abbrev next : InstalledEdit
   next = after_compaction store.history mine store.installed
@@ -59,11 +59,11 @@ module _ {D : Type 0} (z : SharedState D) (first : InstalledEdit) (old new : Sea
 
   -- ---- what was pinned
 
-  -- all was pinned at the end of the history, and just the client's snapshots were live
+  -- all was pinned at the end of the history, and just the client's snapshots and its pin were live
   record IsWhole (floor : ℕ) (live : List ℕ) : Type 0 where
     pub history : take floor new.knows.participant.seen ≡ store.history
     pub floor_is : floor ≡ length store.history
-    pub live_is : AreSame live (numbers_of snapshots)
+    pub live_is : AreSame live (live_of client)
 
   -- the live numbers are those of the seat's registrations
   live_registered : (floor : ℕ) (live : List ℕ) → HasPinned z old new floor live → AreSame live (numbers_in old.knows.participant.registered)
@@ -99,8 +99,8 @@ module _ {D : Type 0} (z : SharedState D) (first : InstalledEdit) (old new : Sea
       }
 
   -- the lists are the same too
-  both_listed : (live : List ℕ) → AreSame live (numbers_of snapshots) → AreSame (listed live store.base store.installed) mine
-  both_listed live same = record { there = λ n there. of_both live (numbers_of snapshots) n same.there there; back = λ n there. of_both (numbers_of snapshots) live n same.back there }
+  both_listed : (live : List ℕ) → AreSame live (live_of client) → AreSame (listed live store.base store.installed) mine
+  both_listed live same = record { there = λ n there. of_both live (live_of client) n same.there there; back = λ n there. of_both (live_of client) live n same.back there }
     where
       of_both : (xs ys : List ℕ) (n : ℕ) → ((m : ℕ) → IsIn m xs → IsIn m ys) → IsIn n (listed xs store.base store.installed) → IsIn n (listed ys store.base store.installed)
       of_both xs ys n f there = ⊎_elim

@@ -1,31 +1,37 @@
 -- What a client is answered that is alone and prepares its transaction, commits it, rolls it back, drops it or leaves it.
-use Rattle.std.proofs.Common.{◌≡◌, inl, ℕ, ◌+◌, Bool, List, [], ◌∷◌, ◌++◌, length, refl, sym, subst, ap, ◌∙◌, append-nil, length-append, arith}
+use Rattle.std.proofs.Common.{◌≡◌, inl, ℕ, ◌+◌, Bool, eq-eqb, List, [], ◌∷◌, ◌++◌, length, refl, sym, subst, ap, ◌∙◌, append-nil, length-append, arith}
 use Rattle.wp_model.specs.declared.change.Change.{Change}
 use Rattle.wp_model.specs.declared.entry.Entry.{Entry}
 use Rattle.wp_model.specs.declared.entry.Entry.TheVariants as entry
 use Rattle.wp_model.specs.Flushed.{InstalledEdit}
-use Rattle.wp_model.specs.History.{prepared_batch, batch_at}
-use Rattle.wp_model.specs.Legal.{prior}
+use Rattle.wp_model.specs.History.{entry_at, prepared_name, prepared_batch, name_at, batch_at}
+use Rattle.wp_model.specs.Legal.{IsLegal, prior}
 use Rattle.wp_text.specs.declared.script.Command.{Command}
 use Rattle.wp_text.specs.declared.script.Command.TheVariants as command
 use Rattle.wp_text.specs.declared.reply.Reply.{Reply}
 use Rattle.wp_text.specs.declared.reply.Reply.TheVariants as reply
+use Rattle.wp_core.specs.Lists.{IsIn}
+use Rattle.wp_core.specs.Views.{locks_stay}
 use Rattle.wp_core.specs.World.{Participant, World}
+use Rattle.wp_core.proofs.KeepsSeen.{shorter}
+use Rattle.wp_records.specs.Records.{IsAboutNone}
 use Rattle.wp_records.specs.Writing.{FoundLog}
 use Rattle.wp_shared.specs.Calls.{IsLoose}
 use Rattle.wp_shared.specs.Seats.{SharedState, SeatState, Stands}
 use Rattle.wp_open_txns.specs.declared.error.TxnError.TheVariants.{NumbersFull, LogFault, Stopped}
-use Rattle.wp_open_txns.specs.Calls.{GivesUp, without_transaction}
+use Rattle.wp_open_txns.specs.Calls.{GivesUp, Abandons, without_transaction}
+use Rattle.wp_read.specs.Registers.{unregistering}
 use Rattle.wp_open_txns.specs.Turns.{IsApartFrom}
-use Rattle.wp_open_txns.specs.Txn.{OpenState, PreparedState, HasPrepared}
+use Rattle.wp_open_txns.specs.Txn.{OpenState, PreparedState, keys_in, HasPrepared}
 use Rattle.wp_txn.specs.Writes.{Prepares, CommitsNow, Commits, RollsBack, RefusesOpen, RefusesPrepared, AsksCommit, AsksRollback}
 use Rattle.wp_replies.specs.declared.client.LabelledSnapshot.{LabelledSnapshot}
-use Rattle.wp_replies.specs.declared.client.Txn.TheVariants.{Idle, Open, Prepared}
+use Rattle.wp_replies.specs.Txn.{Idle, Open, Prepared}
 use Rattle.wp_replies.specs.Client.{Client}
 use Rattle.wp_replies.specs.Due.{Store, logged, client_after}
 use Rattle.wp_replies.specs.Plan.{next}
-use Rattle.wp_client.specs.Alone.{IsOnly, IsStoreOf, AnswersAlone}
+use Rattle.wp_client.specs.Alone.{IsOnly, IsStoreOf, IsPrepare, AreLockedOf, AnswersAlone}
 use Rattle.wp_client.specs.Holdings.{staged_of}
+use Rattle.wp_client.proofs.Alone.Kept.{locked_unprepared, locked_left, left_before, left_prepared, locked_written, locked_rolled}
 use Rattle.wp_client.proofs.Alone.Seated.{none_quiet, follows_on}
 use Rattle.wp_client.proofs.Alone.Quiet.{quiet_answers}
 use Rattle.wp_answers.proofs.Alone.Logged.{AsksFor, put_answers, stopped_answers, full_answers, fault_answers}
@@ -63,14 +69,27 @@ module _ {D : Type 0} (z : SharedState D) (first : InstalledEdit) (old new : Sea
   pub prepared_alone : (t : OpenState) (p : PreparedState) (n : ℕ) → Prepares z old t p n new → AnswersAlone z first old new (opened t) (prepared p) command.Prepare (reply.Prepared n) store
   prepared_alone t p n k =
       let history = k.3.0 in let put = k.3.1 in let entries : List Entry = entry.Prepare t.name t.batch ∷ [] in
-      put_answers z first old new only store is stood IsLoose it it [] past_same refl past_same none_quiet history entries put (opened t) (prepared p) command.Prepare (reply.Prepared n)
+      put_answers z first old new only store is stood IsLoose it (unregistering t.pin it) [] past_same refl past_same none_quiet history entries put (opened t) (prepared p) command.Prepare (reply.Prepared n)
       (λ behind legal. asks_prepare t n (last_number history store.history new.knows.participant.seen entries n k.0 put.seen behind)) (ap prepared k.1)
+      (λ behind legal are.
+      let made = entry.Prepare t.name t.batch in let its : PreparedState = record { name = t.name; number = n; batch = t.batch; locked = t.locked } in
+      let has = subst (HasPrepared new) k.1 k.2 in
+      let number : n ≡ length store.history + 1 = last_number history store.history new.knows.participant.seen entries n k.0 put.seen behind in
+      let seen : new.knows.participant.seen ≡ store.history ++ entries = put.seen ∙ ap (λ (h : List Entry). h ++ entries) behind in
+      let opened = shorter it.seen z.opened is.opened in let same = ap (λ (h : List Entry). length h) is.history in
+      subst (λ (m : ℕ). AreLockedOf z new (Prepared m) (store.history ++ entries) (store.locked ++ record { number = n; keys = t.locked } ∷ [])) (sym (ap (λ (x : PreparedState). x.number) k.1))
+      (left_prepared z new store.history made (subst (λ (h : List Entry). IsLegal (h ++ entries)) behind legal) its store.locked (omega (arith, number)) (omega (arith, opened, same))
+      (ap (λ (h : List Entry). entry_at h n) (sym seen) ∙ has.stands) has (IsPrepare (Open (staged_of t))) (λ m own. own)
+      (left_before z old new (Open (staged_of t)) store.history store.locked (λ name q keys. let none : IsAboutNone history entries (locks_stay name q keys) = (refl, tt) in put.goes_on.notes (locks_stay name q keys) (refl, none)) are)))
 
   pub committed_now_alone : (t : OpenState) (n : ℕ) → CommitsNow z old t n new → AnswersAlone z first old new (opened t) idle command.Commit (reply.Committed n) store
   committed_now_alone t n k =
       let history = k.1.0 in let put = k.1.1 in let entries : List Entry = entry.Write t.batch ∷ [] in
-      put_answers z first old new only store is stood (IsApartFrom t.name) it (without_transaction t.name it) [] past_same refl past_same none_quiet history entries put (opened t) idle command.Commit (reply.Committed n)
+      put_answers z first old new only store is stood (IsApartFrom t.name) it (without_transaction t.name (unregistering t.pin it)) [] past_same refl past_same none_quiet history entries put (opened t) idle command.Commit (reply.Committed n)
       (λ behind legal. asks_commit_now t n (last_number history store.history new.knows.participant.seen entries n k.0 put.seen behind)) refl
+      (λ behind legal. locked_written z old new (Open (staged_of t)) Idle store.history (entry.Write t.batch) (subst (λ (h : List Entry). IsLegal (h ++ entries)) behind legal) store.locked
+      (λ name q keys. let apart : IsApartFrom t.name (locks_stay name q keys) = (refl, refl) in let none : IsAboutNone history entries (locks_stay name q keys) = (refl, tt) in put.goes_on.notes (locks_stay name q keys) (apart, none))
+      refl (λ p own. absurd own))
 
   -- a refusal leaves it
   module _ (t left : OpenState) (c : Command) (r : Reply) (e : Entry) (asks : AsksFor store (opened t) c 1 r (e ∷ [])) where
@@ -80,17 +99,17 @@ module _ {D : Type 0} (z : SharedState D) (first : InstalledEdit) (old new : Sea
     pub open_stopped_alone : (n : ℕ) → RefusesOpen z old t e left (Stopped n) new → AnswersAlone z first old new (opened t) (opened left) c (reply.Stopped n) store
     open_stopped_alone n k =
         back_open (reply.Stopped n) refl k.0
-        (stopped_answers z first old new only store is stood IsLoose it it [] past_same refl past_same none_quiet 1 (λ es. es ≡ e ∷ []) (opened t) c r (e ∷ []) (λ closed found seen. asks) n k.2 refl)
+        (stopped_answers z first old new only store is stood IsLoose it it [] past_same refl past_same none_quiet 1 (λ es. es ≡ e ∷ []) (opened t) c r (e ∷ []) (λ closed found seen. asks) refl n k.2 refl)
 
     pub open_full_alone : (published limit : ℕ) → RefusesOpen z old t e left (NumbersFull published limit) new → AnswersAlone z first old new (opened t) (opened left) c (reply.Full published limit) store
     open_full_alone published limit k =
         back_open (reply.Full published limit) refl k.0
-        (full_answers z first old new only store is stood IsLoose it it [] past_same refl past_same none_quiet 1 (λ es. es ≡ e ∷ []) (opened t) c r (e ∷ []) (λ closed found seen. asks) published limit k.2 refl)
+        (full_answers z first old new only store is stood IsLoose it it [] past_same refl past_same none_quiet 1 (λ es. es ≡ e ∷ []) (opened t) c r (e ∷ []) (λ closed found seen. asks) refl published limit k.2 refl)
 
     pub open_fault_alone : RefusesOpen z old t e left LogFault new → AnswersAlone z first old new (opened t) (opened left) c reply.FaultLog store
     open_fault_alone k =
         back_open reply.FaultLog refl k.0
-        (fault_answers z first old new only store is stood IsLoose it it [] past_same refl past_same none_quiet 1 (λ es. es ≡ e ∷ []) (opened t) c r (e ∷ []) (λ closed found seen. asks) (λ es seen same. same) k.2 refl)
+        (fault_answers z first old new only store is stood IsLoose it it [] past_same refl past_same none_quiet 1 (λ es. es ≡ e ∷ []) (opened t) c r (e ∷ []) (λ closed found seen. asks) refl (λ es seen same. same) k.2 refl)
 
   -- which entry a prepare and a commit ask for
   pub prepare_asks : (t : OpenState) → AsksFor store (opened t) command.Prepare 1 (reply.Prepared (next store.history)) (entry.Prepare t.name t.batch ∷ [])
@@ -122,12 +141,18 @@ module _ {D : Type 0} (z : SharedState D) (first : InstalledEdit) (old new : Sea
       let history = k.0.1.0 in let put = k.0.1.1 in let entries : List Entry = entry.Commit t.number ∷ [] in
       put_answers z first old new only store is stood (IsApartFrom t.name) it (without_transaction t.name it) [] past_same refl past_same none_quiet history entries put (prepared t) idle command.Commit (reply.Committed n)
       (λ behind legal. asks_commit t n (last_number history store.history new.knows.participant.seen entries n k.0.0 put.seen behind)) refl
+      (λ behind legal. locked_written z old new (Prepared t.number) Idle store.history (entry.Commit t.number) (subst (λ (h : List Entry). IsLegal (h ++ entries)) behind legal) store.locked
+      (λ name q keys. let apart : IsApartFrom t.name (locks_stay name q keys) = (refl, refl) in let none : IsAboutNone history entries (locks_stay name q keys) = (refl, tt) in put.goes_on.notes (locks_stay name q keys) (apart, none))
+      refl (λ p own. eq-eqb t.number p own))
 
   pub rolled_back_alone : (t : PreparedState) → HasPrepared old t → (n : ℕ) → RollsBack z old t n new → AnswersAlone z first old new (prepared t) idle command.Rollback (reply.RolledBack n) store
   rolled_back_alone t has n k =
       let history = k.1.0 in let put = k.1.1 in let entries : List Entry = entry.Undo t.number (prior history t.batch) ∷ entry.Close t.number ∷ [] in
       put_answers z first old new only store is stood (IsApartFrom t.name) it (without_transaction t.name it) [] past_same refl past_same none_quiet history entries put (prepared t) idle command.Rollback (reply.RolledBack n)
       (λ behind legal. asks_rollback t has history behind n (let all = last_number history store.history new.knows.participant.seen entries n k.0 put.seen behind in omega (arith, all))) refl
+      (λ behind legal. locked_rolled z old new (Prepared t.number) Idle store.history (entry.Undo t.number (prior history t.batch)) (entry.Close t.number) (subst (λ (h : List Entry). IsLegal (h ++ entries)) behind legal) store.locked
+      (λ name q keys. let apart : IsApartFrom t.name (locks_stay name q keys) = (refl, refl) in let last : IsAboutNone (history ++ entry.Undo t.number (prior history t.batch) ∷ []) (entry.Close t.number ∷ []) (locks_stay name q keys) = (refl, tt) in let none : IsAboutNone history entries (locks_stay name q keys) = (refl, last) in put.goes_on.notes (locks_stay name q keys) (apart, none))
+      refl refl (λ p own. eq-eqb t.number p own))
 
   back_prepared : (t left : PreparedState) (c : Command) (answer : Reply) → left ≡ t → AnswersAlone z first old new (prepared t) (prepared t) c answer store → AnswersAlone z first old new (prepared t) (prepared left) c answer store
   back_prepared t left c answer same k = subst (λ (x : PreparedState). AnswersAlone z first old new (prepared t) (prepared x) c answer store) (sym same) k
@@ -139,17 +164,17 @@ module _ {D : Type 0} (z : SharedState D) (first : InstalledEdit) (old new : Sea
     pub commit_stopped_alone : (n : ℕ) → RefusesPrepared z old t 1 AsksCommit left (Stopped n) new → AnswersAlone z first old new (prepared t) (prepared left) command.Commit (reply.Stopped n) store
     commit_stopped_alone n k =
         back_prepared t left command.Commit (reply.Stopped n) k.0
-        (stopped_answers z first old new only store is stood IsLoose it it [] past_same refl past_same none_quiet 1 (AsksCommit new.knows.participant.seen t) (prepared t) command.Commit (reply.Committed (next store.history)) (entry.Commit t.number ∷ []) commit_refused n k.2 refl)
+        (stopped_answers z first old new only store is stood IsLoose it it [] past_same refl past_same none_quiet 1 (AsksCommit new.knows.participant.seen t) (prepared t) command.Commit (reply.Committed (next store.history)) (entry.Commit t.number ∷ []) commit_refused refl n k.2 refl)
 
     pub commit_full_alone : (published limit : ℕ) → RefusesPrepared z old t 1 AsksCommit left (NumbersFull published limit) new → AnswersAlone z first old new (prepared t) (prepared left) command.Commit (reply.Full published limit) store
     commit_full_alone published limit k =
         back_prepared t left command.Commit (reply.Full published limit) k.0
-        (full_answers z first old new only store is stood IsLoose it it [] past_same refl past_same none_quiet 1 (AsksCommit new.knows.participant.seen t) (prepared t) command.Commit (reply.Committed (next store.history)) (entry.Commit t.number ∷ []) commit_refused published limit k.2 refl)
+        (full_answers z first old new only store is stood IsLoose it it [] past_same refl past_same none_quiet 1 (AsksCommit new.knows.participant.seen t) (prepared t) command.Commit (reply.Committed (next store.history)) (entry.Commit t.number ∷ []) commit_refused refl published limit k.2 refl)
 
     pub commit_fault_alone : RefusesPrepared z old t 1 AsksCommit left LogFault new → AnswersAlone z first old new (prepared t) (prepared left) command.Commit reply.FaultLog store
     commit_fault_alone k =
         back_prepared t left command.Commit reply.FaultLog k.0
-        (fault_answers z first old new only store is stood IsLoose it it [] past_same refl past_same none_quiet 1 (AsksCommit new.knows.participant.seen t) (prepared t) command.Commit (reply.Committed (next store.history)) (entry.Commit t.number ∷ []) commit_refused (λ es seen same. same) k.2 refl)
+        (fault_answers z first old new only store is stood IsLoose it it [] past_same refl past_same none_quiet 1 (AsksCommit new.knows.participant.seen t) (prepared t) command.Commit (reply.Committed (next store.history)) (entry.Commit t.number ∷ []) commit_refused refl (λ es seen same. same) k.2 refl)
 
     module _ (has : HasPrepared old t) where
       abbrev undone : List Entry
@@ -161,27 +186,30 @@ module _ {D : Type 0} (z : SharedState D) (first : InstalledEdit) (old new : Sea
       pub rollback_stopped_alone : (n : ℕ) → RefusesPrepared z old t 2 AsksRollback left (Stopped n) new → AnswersAlone z first old new (prepared t) (prepared left) command.Rollback (reply.Stopped n) store
       rollback_stopped_alone n k =
           back_prepared t left command.Rollback (reply.Stopped n) k.0
-          (stopped_answers z first old new only store is stood IsLoose it it [] past_same refl past_same none_quiet 2 (AsksRollback new.knows.participant.seen t) (prepared t) command.Rollback (reply.RolledBack (next store.history + 1)) undone rollback_refused n k.2 refl)
+          (stopped_answers z first old new only store is stood IsLoose it it [] past_same refl past_same none_quiet 2 (AsksRollback new.knows.participant.seen t) (prepared t) command.Rollback (reply.RolledBack (next store.history + 1)) undone rollback_refused refl n k.2 refl)
 
       pub rollback_full_alone : (published limit : ℕ) → RefusesPrepared z old t 2 AsksRollback left (NumbersFull published limit) new → AnswersAlone z first old new (prepared t) (prepared left) command.Rollback (reply.Full published limit) store
       rollback_full_alone published limit k =
           back_prepared t left command.Rollback (reply.Full published limit) k.0
-          (full_answers z first old new only store is stood IsLoose it it [] past_same refl past_same none_quiet 2 (AsksRollback new.knows.participant.seen t) (prepared t) command.Rollback (reply.RolledBack (next store.history + 1)) undone rollback_refused published limit k.2 refl)
+          (full_answers z first old new only store is stood IsLoose it it [] past_same refl past_same none_quiet 2 (AsksRollback new.knows.participant.seen t) (prepared t) command.Rollback (reply.RolledBack (next store.history + 1)) undone rollback_refused refl published limit k.2 refl)
 
       pub rollback_fault_alone : RefusesPrepared z old t 2 AsksRollback left LogFault new → AnswersAlone z first old new (prepared t) (prepared left) command.Rollback reply.FaultLog store
       rollback_fault_alone k =
           back_prepared t left command.Rollback reply.FaultLog k.0
-          (fault_answers z first old new only store is stood IsLoose it it [] past_same refl past_same none_quiet 2 (AsksRollback new.knows.participant.seen t) (prepared t) command.Rollback (reply.RolledBack (next store.history + 1)) undone rollback_refused
+          (fault_answers z first old new only store is stood IsLoose it it [] past_same refl past_same none_quiet 2 (AsksRollback new.knows.participant.seen t) (prepared t) command.Rollback (reply.RolledBack (next store.history + 1)) undone rollback_refused refl
           (λ es seen same. same ∙ ap (λ (h : List Entry). entry.Undo t.number (prior h t.batch) ∷ entry.Close t.number ∷ []) seen) k.2 refl)
 
   -- ---- it is given up
 
-  pub dropped_alone : (t : OpenState) → GivesUp z old new t.name → AnswersAlone z first old new (opened t) idle command.Rollback reply.Dropped store
+  pub dropped_alone : (t : OpenState) → Abandons z old new t → AnswersAlone z first old new (opened t) idle command.Rollback reply.Dropped store
   dropped_alone t k =
-      quiet_answers z first old new only store is stood [] (follows_on (IsApartFrom t.name) z old new (without_transaction t.name it) k [] refl past_same) none_quiet (opened t) idle command.Rollback reply.Dropped
+      quiet_answers z first old new only store is stood [] (follows_on (IsApartFrom t.name) z old new (without_transaction t.name (unregistering t.pin it)) k [] refl past_same) none_quiet (opened t) idle command.Rollback reply.Dropped
       (record { logged = refl; fault = refl; installed = refl; tables = refl; board = λ b. refl }) (inl refl) refl
+      (locked_unprepared z old new (λ name q keys. let apart : IsApartFrom t.name (locks_stay name q keys) = (refl, refl) in k.notes (locks_stay name q keys) apart) (Open (staged_of t)) Idle store.history store.locked tt)
 
-  pub left_alone : (t : PreparedState) → GivesUp z old new t.name → AnswersAlone z first old new (prepared t) idle command.Leave reply.Left store
-  left_alone t k =
+  pub left_alone : (t : PreparedState) → HasPrepared old t → IsIn (locks_stay t.name t.number (keys_in t.batch t.locked)) new.knows.notes → GivesUp z old new t.name → AnswersAlone z first old new (prepared t) idle command.Leave reply.Left store
+  left_alone t has noted k =
       quiet_answers z first old new only store is stood [] (follows_on (IsApartFrom t.name) z old new (without_transaction t.name it) k [] refl past_same) none_quiet (prepared t) idle command.Leave reply.Left
       (record { logged = refl; fault = refl; installed = refl; tables = refl; board = λ b. refl }) (inl refl) refl
+      (locked_left z old new (λ name q keys. let apart : IsApartFrom t.name (locks_stay name q keys) = (refl, refl) in k.notes (locks_stay name q keys) apart) t Idle store.history store.locked has
+      (ap (λ (h : List Entry). name_at h t.number) is.history ∙ ap prepared_name has.stands) noted)

@@ -24,17 +24,18 @@ use Rattle.wp_shared.specs.Seats.{SharedState, SeatState, Stands}
 use Rattle.wp_open_txns.specs.declared.error.TxnError.TheVariants.{NumbersFull, LogFault, Stopped}
 use Rattle.wp_txn.specs.Writes.{HasPut, Refuses}
 use Rattle.wp_replies.specs.Client.{Client}
-use Rattle.wp_replies.specs.Due.{Store, logged, due, edit_of, board_after, store_after, client_after}
+use Rattle.wp_replies.specs.Due.{Store, plan_in, logged, due, edit_of, board_after, locked_after, store_after, client_after}
 use Rattle.wp_replies.specs.Kind.{is_logged, is_fault, is_installed, is_renewed, is_renewal, calls_log}
 use Rattle.wp_replies.specs.Kind as kind
-use Rattle.wp_replies.specs.Plan.{plan, asked_of}
-use Rattle.wp_client.specs.Alone.{log_faults, IsOnly, IsStoreOf, AnswersAlone}
+use Rattle.wp_replies.specs.Plan.{asked_of}
+use Rattle.wp_client.specs.Alone.{log_faults, IsOnly, IsStoreOf, AreLockedOf, AreLockedIn, AnswersAlone}
+use Rattle.wp_client.proofs.Alone.Kept.{goes_still}
 use Rattle.wp_client.proofs.Alone.Published.{total_both, none_if, if_one, in_both, not_counted}
 use Rattle.wp_client.proofs.Growing.{in_back}
 use Rattle.wp_client.proofs.Alone.Worlds.{has_seen, no_log_fault, only_of, was_stopped}
 use Rattle.wp_client.proofs.Alone.Seated.{LeaveTables, AreQuiet, one_quiet, one_leaves, both_leave, both_quiet, Follows, alone_at, follows, follows_on, is_alone, last_over, begins_opened, log_now, log_still, past_still, seen_still, such_store}
 use Rattle.wp_answers.proofs.Alone.Putting.{few_put, put_behind}
-use Rattle.wp_client.proofs.Alone.Quiet.{never_stops, never_renews, LeavesStore, quiet_answers}
+use Rattle.wp_client.proofs.Alone.Quiet.{never_stops, never_renews, locked_same, LeavesStore, quiet_answers}
 
 -- ---- what is due
 
@@ -56,7 +57,7 @@ log_is_stopped store needed r failed = ap (λ (b : Bool). if b then reply.Stoppe
 -- the command comes to these entries, so many, which that reply acknowledges
 pub record AsksFor (store : Store) (was : Client) (c : Command) (needed : ℕ) (r : Reply) (entries : List Entry) : Type 0 where
   pub due_is : due store was c ≡ logged store needed r
-  pub asked : asked_of (plan store.history was c) ≡ entries
+  pub asked : asked_of (plan_in store was c) ≡ entries
   pub logged : is_logged r ≡ true
   pub fault : is_fault r ≡ false
   pub installed : is_installed r ≡ false
@@ -64,16 +65,17 @@ pub record AsksFor (store : Store) (was : Client) (c : Command) (needed : ℕ) (
   pub board : (b : Labels) (answer : Reply) → board_after b c answer ≡ b
 
 -- the store with the entries
-store_with : (store : Store) (was : Client) (c : Command) (needed : ℕ) (r : Reply) (entries : List Entry) → AsksFor store was c needed r entries → store_after 0 store was c r ≡ record store { history = store.history ++ entries }
+store_with : (store : Store) (was : Client) (c : Command) (needed : ℕ) (r : Reply) (entries : List Entry) → AsksFor store was c needed r entries → store_after 0 store was c r ≡ record store { history = store.history ++ entries; locked = locked_after store.locked was.txn r }
 store_with store was c needed r entries a = λ i. record {
   base = store.base;
-  history = (ap (λ (b : Bool). store.history ++ (if b then asked_of (plan store.history was c) else [])) a.logged ∙ ap (λ (es : List Entry). store.history ++ es) a.asked) i;
+  history = (ap (λ (b : Bool). store.history ++ (if b then asked_of (plan_in store was c) else [])) a.logged ∙ ap (λ (es : List Entry). store.history ++ es) a.asked) i;
   stopped = ap (λ (b : Bool). if b then true else store.stopped) (never_stops (is_renewal c) (kind.kind r) a.fault a.tables) i;
   limit = ap (λ (b : Bool). if b then store.renewed_limit else store.limit) (never_renews (kind.kind r) a.installed) i;
   renewed_limit = store.renewed_limit;
-  installed = ap (λ (b : Bool). if b then edit_of 0 store was (plan store.history was c) else store.installed) a.installed i;
+  installed = ap (λ (b : Bool). if b then edit_of 0 store was (plan_in store was c) else store.installed) a.installed i;
   halted = ap (λ (b : Bool). if b then true else store.halted) a.tables i;
   board = a.board store.board r i;
+  locked = locked_after store.locked was.txn r;
 }
 
 -- the store with its log failed
@@ -87,6 +89,7 @@ store_failed store was c needed r entries a = λ i. record {
   installed = store.installed;
   halted = store.halted;
   board = a.board store.board reply.FaultLog i;
+  locked = locked_same store.locked was.txn reply.FaultLog refl i;
 }
 
 of_last : (others es : List Entry) → IsIn (log_failed others) (log_failed es ∷ []) → others ≡ es
@@ -141,8 +144,9 @@ module _ {D : Type 0} (z : SharedState D) (first : InstalledEdit) (old new : Sea
           follows (λ fact. Stays fact × IsAboutNone history entries fact) z old new _ put.goes_on (numbers_behind (length history) entries) pre (ap (λ (own : List ℕ). own ++ numbers_behind (length history) entries) after_own) after_past
 
       pub put_answers : (history entries : List Entry) → HasPut Stays z old new found after history entries → (was now : Client) (c : Command) (r : Reply)
-          → (history ≡ store.history → IsLegal (history ++ entries) → AsksFor store was c (length entries) r entries) → now ≡ client_after store.history was c r → AnswersAlone z first old new was now c r store
-      put_answers history entries put was now c r asks client =
+          → (history ≡ store.history → IsLegal (history ++ entries) → AsksFor store was c (length entries) r entries) → now ≡ client_after store.history was c r
+          → (history ≡ store.history → IsLegal (history ++ entries) → AreLockedIn z old was.txn store → AreLockedOf z new now.txn (store.history ++ entries) (locked_after store.locked was.txn r)) → AnswersAlone z first old new was now c r store
+      put_answers history entries put was now c r asks client locks =
           let f = put_follows history entries put in
           let behind = put_behind z first old new only store is stood history entries pre f put.grown put.seen in
           let a = asks behind (subst IsLegal put.seen legal_seen) in
@@ -150,7 +154,7 @@ module _ {D : Type 0} (z : SharedState D) (first : InstalledEdit) (old new : Sea
           let room : length store.history + length entries ≤ store.limit =
           (let size : length history ≡ length store.history = ap (λ (h : List Entry). length h) behind in let both = length-append history entries in let most = put.within in let limit = limit_found found history false pre found_past quiet.leave put.found_log in omega (arith, size, both, most, limit)) in
           let still = past_still z first old new only store is stood (numbers_behind (length history) entries) pre f quiet.leave in
-          let grown : IsStoreOf z first new.knows.participant (record store { history = store.history ++ entries }) = record {
+          let grown : IsStoreOf z first new.knows.participant (record store { history = store.history ++ entries; locked = locked_after store.locked was.txn r }) = record {
             first_is = is.first_is;
             at = is.at;
             base = is.base;
@@ -168,6 +172,7 @@ module _ {D : Type 0} (z : SharedState D) (first : InstalledEdit) (old new : Sea
             replied = inl (sym (a.due_is ∙ log_takes store (length entries) r running room));
             place = 0;
             store_is = subst (λ (x : Store). IsStoreOf z first new.knows.participant x) (sym (store_with store was c (length entries) r entries a)) grown;
+            locked = λ are. subst (AreLockedIn z new now.txn) (sym (store_with store was c (length entries) r entries a)) (locks behind (subst IsLegal put.seen legal_seen) are);
             client = client;
             events = pre;
             past = f.past;
@@ -179,7 +184,7 @@ module _ {D : Type 0} (z : SharedState D) (first : InstalledEdit) (old new : Sea
       -- ---- they are refused
 
       module _ (needed : ℕ) (Asks : List Entry → Type 0) (was : Client) (c : Command) (r : Reply) (entries : List Entry)
-          (asks : (closed : Bool) → FoundLog z old found new.knows.participant.seen closed → new.knows.participant.seen ≡ store.history → AsksFor store was c needed r entries) where
+          (asks : (closed : Bool) → FoundLog z old found new.knows.participant.seen closed → new.knows.participant.seen ≡ store.history → AsksFor store was c needed r entries) (after_has : after.transactions ≡ old.knows.participant.transactions) where
         leaves_for : (answer : Reply) → is_logged answer ≡ false → is_fault answer ≡ false → is_installed answer ≡ false → kind.is_tables_fault answer ≡ false → AsksFor store was c needed r entries → LeavesStore c answer
         leaves_for answer l f i t a = record { logged = l; fault = f; installed = i; tables = t; board = λ b. a.board b answer }
 
@@ -195,7 +200,7 @@ module _ {D : Type 0} (z : SharedState D) (first : InstalledEdit) (old new : Sea
             let closed = (was_stopped behind_it stood.1.reached new.knows alone n there).0 in
             let failed : store.stopped ≡ true = if_one store.stopped (log_still z first old new only store is stood [] events f all_quiet.log ∙ ((only_of behind_it stood.1.reached new.knows alone).closed ∙ ap one_if closed)) in
             quiet_answers z first old new only store is stood events f all_quiet was was c (reply.Stopped n) (leaves_for (reply.Stopped n) refl refl refl refl a)
-            (inl (sym (a.due_is ∙ (log_is_stopped store needed r failed ∙ ap reply.Stopped (sym (k.0 ∙ ap (λ (h : List Entry). length h) seen)))))) client
+            (inl (sym (a.due_is ∙ (log_is_stopped store needed r failed ∙ ap reply.Stopped (sym (k.0 ∙ ap (λ (h : List Entry). length h) seen)))))) client (goes_still z old new _ k.2 after_has was.txn store)
 
         pub full_answers : (published limit : ℕ) → Refuses z old new needed Asks found after (NumbersFull published limit) → was ≡ client_after store.history was c (reply.Full published limit) → AnswersAlone z first old new was was c (reply.Full published limit) store
         full_answers published limit k client =
@@ -210,7 +215,7 @@ module _ {D : Type 0} (z : SharedState D) (first : InstalledEdit) (old new : Sea
             let most : limit ≡ store.limit = k.3 ∙ limit_found found new.knows.participant.seen false pre found_past quiet.leave k.2 in
             let full : store.limit < length store.history + needed = (let over = k.1 in omega (arith, size, most, over)) in
             quiet_answers z first old new only store is stood events f all_quiet was was c (reply.Full published limit) (leaves_for (reply.Full published limit) refl refl refl refl a)
-            (inl (sym (a.due_is ∙ (log_is_full store needed r running full ∙ ap (λ (x : ℕ × ℕ). reply.Full x.0 x.1) (λ i. (sym size i, sym most i)))))) client
+            (inl (sym (a.due_is ∙ (log_is_full store needed r running full ∙ ap (λ (x : ℕ × ℕ). reply.Full x.0 x.1) (λ i. (sym size i, sym most i)))))) client (goes_still z old new _ k.4 after_has was.txn store)
 
         pub fault_answers : ((es : List Entry) → new.knows.participant.seen ≡ store.history → Asks es → es ≡ entries) → Refuses z old new needed Asks found after LogFault → was ≡ client_after store.history was c reply.FaultLog → AnswersAlone z first old new was was c reply.FaultLog store
         fault_answers same k client =
@@ -231,6 +236,7 @@ module _ {D : Type 0} (z : SharedState D) (first : InstalledEdit) (old new : Sea
               replied = inr (inl (refl, ap calls_log (a.due_is ∙ log_takes store needed r running room) ∙ ap (λ (b : Bool). b || is_renewed r) a.logged));
               place = 0;
               store_is = subst (λ (x : Store). IsStoreOf z first new.knows.participant x) (sym (store_failed store was c needed r entries a)) failed;
+              locked = λ are. subst (AreLockedIn z new was.txn) (sym (store_failed store was c needed r entries a)) (goes_still z old new _ k.2.2 after_has was.txn store are);
               client = client;
               events = events;
               past = f.past;

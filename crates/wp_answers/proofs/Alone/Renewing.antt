@@ -26,12 +26,13 @@ use Rattle.wp_replies.specs.Client.{Client}
 use Rattle.wp_replies.specs.Due.{Store, due, renewed, store_after}
 use Rattle.wp_replies.specs.Kind.{is_installed, calls_log}
 use Rattle.wp_replies.specs.Tables.{after_renewal}
-use Rattle.wp_client.specs.Alone.{log_faults, IsOnly, IsStoreOf, AnswersAlone, tables_faults}
+use Rattle.wp_client.specs.Alone.{log_faults, tables_faults, IsOnly, IsStoreOf, AreLockedIn, AnswersAlone}
+use Rattle.wp_client.proofs.Alone.Kept.{goes_still}
 use Rattle.wp_client.proofs.Alone.Published.{none_if, if_one, not_counted}
 use Rattle.wp_client.proofs.Growing.{in_back}
 use Rattle.wp_client.proofs.Alone.Worlds.{no_log_fault, only_of, was_stopped}
 use Rattle.wp_client.proofs.Alone.Seated.{AreQuiet, one_quiet, both_quiet, follows_on, log_now, log_still, tables_now, board_still, seen_still, is_alone, such_store}
-use Rattle.wp_client.proofs.Alone.Quiet.{quiet_answers}
+use Rattle.wp_client.proofs.Alone.Quiet.{locked_same, quiet_answers}
 use Rattle.wp_answers.proofs.Alone.TablesFound.{AsksTablesFor, makes_renewed, last_is, halted_answers, nothing_answers, installs_answers, store_halted, runs}
 
 module _ {D : Type 0} (z : SharedState D) (first : InstalledEdit) (old new : SeatState) (only : IsOnly old) (store : Store) (is : IsStoreOf z first old.knows.participant store) (stood : (w : World) × Stands z new w) (was_last : WasLast content z.first first) (client : Client) where
@@ -129,7 +130,7 @@ module _ {D : Type 0} (z : SharedState D) (first : InstalledEdit) (old new : Sea
       let n_is : n ≡ length store.history = k.number ∙ ap (λ (h : List Entry). length h) seen in
       quiet_answers z first old new only store is stood events f quiet client client command.Renew (reply.Stopped n)
       (record { logged = refl; fault = refl; installed = refl; tables = refl; board = λ b. refl })
-      (inl (sym (ap (λ (b : Bool). if b then reply.Halted store.installed.flushed else ready) (runs z first old new only store is stood was_last e k.found k.running) ∙ (renews_stopped failed ∙ ap reply.Stopped (sym n_is))))) refl
+      (inl (sym (ap (λ (b : Bool). if b then reply.Halted store.installed.flushed else ready) (runs z first old new only store is stood was_last e k.found k.running) ∙ (renews_stopped failed ∙ ap reply.Stopped (sym n_is))))) refl (goes_still z old new _ k.goes_on refl client.txn store)
 
   -- the log's device failed as the segment was written
   pub renew_log_failed_alone : Renews z old (Err LogFault) new → AnswersAlone z first old new client client command.Renew reply.FaultLog store
@@ -144,6 +145,7 @@ module _ {D : Type 0} (z : SharedState D) (first : InstalledEdit) (old new : Sea
         replied = inr (inl (refl, ap calls_log (renewal_due e k.found k.busy.running k.busy.unclosed (other_base e k.found seen k.busy.below))));
         place = 0;
         store_is = subst (λ (x : Store). IsStoreOf z first new.knows.participant x) (sym log_stops) has;
+        locked = λ are. subst (AreLockedIn z new client.txn) (sym log_stops) (goes_still z old new _ k.goes_on refl client.txn store are);
         client = refl;
         events = events;
         past = f.past;
@@ -153,7 +155,7 @@ module _ {D : Type 0} (z : SharedState D) (first : InstalledEdit) (old new : Sea
       }
     where
       log_stops : store_after 0 store client command.Renew reply.FaultLog ≡ record store { stopped = true }
-      log_stops = λ i. record store { history = append-nil store.history i; stopped = true }
+      log_stops = λ i. record store { history = append-nil store.history i; stopped = true; locked = locked_same store.locked client.txn reply.FaultLog refl i }
 
       untold : (e : Installed) (g : Finds z old new e) (label : List ℕ) (n : ℕ) → IsIn (told label n) (found_first e g ∷ log_failed [] ∷ []) → ⊥
       untold e g label n (inl same) = let k : found_first e g ≡ told label n = same in absurd cc
@@ -185,6 +187,7 @@ module _ {D : Type 0} (z : SharedState D) (first : InstalledEdit) (old new : Sea
         replied = inr (inr (refl, ap is_installed (renewal_due e k.found k.busy.running k.busy.unclosed (other_base e k.found seen k.busy.below))));
         place = 0;
         store_is = subst (λ (x : Store). IsStoreOf z first new.knows.participant x) (sym (store_halted store client command.Renew ready (after_renewal store.history 0 store.installed) (asks 0 seen))) has;
+        locked = λ are. subst (AreLockedIn z new client.txn) (sym (store_halted store client command.Renew ready (after_renewal store.history 0 store.installed) (asks 0 seen))) (goes_still z old new _ k.goes_on refl client.txn store are);
         client = refl;
         events = events;
         past = f.past;

@@ -22,22 +22,23 @@ use Rattle.wp_shared.specs.Limits.{limit_at}
 use Rattle.wp_shared.specs.Seats.{SharedState, SeatState, Stands, place_at}
 use Rattle.wp_maint.specs.Calls.{Finds, found_by}
 use Rattle.wp_replies.specs.Client.{Client}
-use Rattle.wp_replies.specs.Due.{Store, due, unless_halted, edit_of, board_after, store_after, client_after}
+use Rattle.wp_replies.specs.Due.{Store, plan_in, due, unless_halted, edit_of, board_after, store_after, client_after}
 use Rattle.wp_replies.specs.Kind.{is_logged, is_fault, is_installed, is_renewed, is_renewal}
 use Rattle.wp_replies.specs.Kind as kind
-use Rattle.wp_replies.specs.Plan.{plan, asked_of}
-use Rattle.wp_client.specs.Alone.{log_faults, tables_faults, IsOnly, IsStoreOf, AnswersAlone}
+use Rattle.wp_replies.specs.Plan.{asked_of}
+use Rattle.wp_client.specs.Alone.{log_faults, tables_faults, IsOnly, IsStoreOf, AreLockedIn, AnswersAlone}
+use Rattle.wp_client.proofs.Alone.Kept.{goes_still}
 use Rattle.wp_client.proofs.Alone.Published.{none_if, if_one, not_counted}
 use Rattle.wp_client.proofs.Alone.Worlds.{only_of}
 use Rattle.wp_client.proofs.Alone.Seated.{last_over, AreQuiet, one_quiet, Follows, follows_on, alone_at, begins_opened, few_now, log_still, tables_now, board_still, seen_still, such_store}
-use Rattle.wp_client.proofs.Alone.Quiet.{never_stops, quiet_answers}
+use Rattle.wp_client.proofs.Alone.Quiet.{never_stops, locked_same, quiet_answers}
 
 -- where the tables are not halted, the command is answered so, and has the tables take this edit; a renewal puts the log's segment at
 -- the place
 pub record AsksTablesFor (store : Store) (was : Client) (c : Command) (ready : Reply) (next : InstalledEdit) : Type 0 where
   pub due_is : due store was c ≡ unless_halted store ready
   pub place : ℕ
-  pub edit_is : edit_of place store was (plan store.history was c) ≡ next
+  pub edit_is : edit_of place store was (plan_in store was c) ≡ next
   pub board : (b : Labels) (r : Reply) → board_after b c r ≡ b
 
 -- the limit from a reply on
@@ -66,19 +67,20 @@ store_with : (store : Store) (was : Client) (c : Command) (ready : Reply) (next 
     → (a : AsksTablesFor store was c ready next) → store_after a.place store was c r ≡ record store { installed = next; limit = limit_after store r }
 store_with store was c ready next r logged fault takes tables a = λ i. record {
   base = store.base;
-  history = (ap (λ (b : Bool). store.history ++ (if b then asked_of (plan store.history was c) else [])) logged ∙ append-nil store.history) i;
+  history = (ap (λ (b : Bool). store.history ++ (if b then asked_of (plan_in store was c) else [])) logged ∙ append-nil store.history) i;
   stopped = ap (λ (b : Bool). if b then true else store.stopped) (never_stops (is_renewal c) (kind.kind r) fault tables) i;
   limit = limit_after store r;
   renewed_limit = store.renewed_limit;
-  installed = (ap (λ (b : Bool). if b then edit_of a.place store was (plan store.history was c) else store.installed) takes ∙ a.edit_is) i;
+  installed = (ap (λ (b : Bool). if b then edit_of a.place store was (plan_in store was c) else store.installed) takes ∙ a.edit_is) i;
   halted = ap (λ (b : Bool). if b then true else store.halted) tables i;
   board = a.board store.board r i;
+  locked = locked_same store.locked was.txn r logged i;
 }
 
 -- the store with its tables halted, and its log stopped where the command is a renewal
 pub store_halted : (store : Store) (was : Client) (c : Command) (ready : Reply) (next : InstalledEdit) (a : AsksTablesFor store was c ready next) → store_after a.place store was c reply.FaultTables ≡ record store { halted = true; stopped = if is_renewal c then true else store.stopped }
 store_halted store was c ready next a =
-    λ i. record { base = store.base; history = append-nil store.history i; stopped = if is_renewal c then true else store.stopped; limit = store.limit; renewed_limit = store.renewed_limit; installed = store.installed; halted = true; board = a.board store.board reply.FaultTables i }
+    λ i. record { base = store.base; history = append-nil store.history i; stopped = if is_renewal c then true else store.stopped; limit = store.limit; renewed_limit = store.renewed_limit; installed = store.installed; halted = true; board = a.board store.board reply.FaultTables i; locked = locked_same store.locked was.txn reply.FaultTables refl i }
 
 module _ {D : Type 0} (z : SharedState D) (first : InstalledEdit) (old new : SeatState) (only : IsOnly old) (store : Store) (is : IsStoreOf z first old.knows.participant store) (stood : (w : World) × Stands z new w) (was_last : WasLast content z.first first) where
   module _ (e : Installed) (f : Finds z old new e) where
@@ -127,7 +129,7 @@ module _ {D : Type 0} (z : SharedState D) (first : InstalledEdit) (old new : Sea
           let number : flushed ≡ store.installed.flushed = flushed_is ∙ ap (λ (x : InstalledEdit). x.flushed) last_is in
           quiet_answers z first old new only store is stood (found_event ∷ []) f found_quiet was was c (reply.Halted flushed)
           (record { logged = refl; fault = refl; installed = refl; tables = refl; board = λ b. a.board b (reply.Halted flushed) })
-          (inl (ap reply.Halted number ∙ sym (a.due_is ∙ ap (λ (b : Bool). if b then reply.Halted store.installed.flushed else ready) (stopped halted)))) refl
+          (inl (ap reply.Halted number ∙ sym (a.due_is ∙ ap (λ (b : Bool). if b then reply.Halted store.installed.flushed else ready) (stopped halted)))) refl (goes_still z old new _ goes refl was.txn store)
 
       -- there was nothing to do
       pub nothing_answers : ready ≡ reply.Nothing → e.halted ≡ false → Continues z old new (with_events (found_event ∷ []) old.knows.participant) → AnswersAlone z first old new was was c reply.Nothing store
@@ -136,7 +138,7 @@ module _ {D : Type 0} (z : SharedState D) (first : InstalledEdit) (old new : Sea
           let a = asks (seen_still z first old new only store is stood (found_event ∷ []) f) in
           quiet_answers z first old new only store is stood (found_event ∷ []) f found_quiet was was c reply.Nothing
           (record { logged = refl; fault = refl; installed = refl; tables = refl; board = λ b. a.board b reply.Nothing })
-          (inl (sym (a.due_is ∙ (ap (λ (b : Bool). if b then reply.Halted store.installed.flushed else ready) (runs running) ∙ none)))) refl
+          (inl (sym (a.due_is ∙ (ap (λ (b : Bool). if b then reply.Halted store.installed.flushed else ready) (runs running) ∙ none)))) refl (goes_still z old new _ goes refl was.txn store)
 
       -- the edit is installed
       pub installs_answers : (r : Reply) → ready ≡ r → is_logged r ≡ false → is_fault r ≡ false → is_installed r ≡ true → kind.is_tables_fault r ≡ false → was ≡ client_after store.history was c r → e.halted ≡ false
@@ -167,6 +169,7 @@ module _ {D : Type 0} (z : SharedState D) (first : InstalledEdit) (old new : Sea
             replied = inl (sym (a.due_is ∙ (ap (λ (b : Bool). if b then reply.Halted store.installed.flushed else ready) (runs running) ∙ ready_is)));
             place = a.place;
             store_is = subst (λ (x : Store). IsStoreOf z first new.knows.participant x) (sym (store_with store was c ready next r logged fault takes tables a)) has;
+            locked = λ are. subst (AreLockedIn z new was.txn) (sym (store_with store was c ready next r logged fault takes tables a)) (goes_still z old new _ goes refl was.txn store are);
             client = client;
             events = events;
             past = f.past;
@@ -195,6 +198,7 @@ module _ {D : Type 0} (z : SharedState D) (first : InstalledEdit) (old new : Sea
             replied = inr (inr (refl, ap is_installed (a.due_is ∙ ap (λ (b : Bool). if b then reply.Halted store.installed.flushed else ready) (runs running)) ∙ installs));
             place = a.place;
             store_is = subst (λ (x : Store). IsStoreOf z first new.knows.participant x) (sym (store_halted store was c ready next a ∙ ap (λ (b : Bool). record store { halted = true; stopped = if b then true else store.stopped }) plain)) has;
+            locked = λ are. subst (AreLockedIn z new was.txn) (sym (store_halted store was c ready next a ∙ ap (λ (b : Bool). record store { halted = true; stopped = if b then true else store.stopped }) plain)) (goes_still z old new _ goes refl was.txn store are);
             client = refl;
             events = events;
             past = f.past;

@@ -19,15 +19,16 @@ use Rattle.wp_open_txns.specs.Calls.{Tells, Hears}
 use Rattle.wp_replies.specs.Client.{Client}
 use Rattle.wp_replies.specs.Due.{Store, store_after}
 use Rattle.wp_replies.specs.Due as due
-use Rattle.wp_client.specs.Alone.{IsOnly, IsStoreOf, AnswersAlone}
+use Rattle.wp_client.specs.Alone.{IsOnly, IsStoreOf, AreLockedIn, AnswersAlone}
 use Rattle.wp_client.proofs.Alone.Published.{in_both, not_counted}
 use Rattle.wp_client.proofs.Alone.Worlds.{was_told}
+use Rattle.wp_client.proofs.Alone.Kept.{goes_still}
 use Rattle.wp_client.proofs.Alone.Seated.{none_quiet, one_quiet, follows_on, is_alone, log_still, tables_now, seen_still, such_store}
-use Rattle.wp_client.proofs.Alone.Quiet.{quiet_answers}
+use Rattle.wp_client.proofs.Alone.Quiet.{locked_same, quiet_answers}
 
 -- the store once something was told
 store_told : (store : Store) (was : Client) (label : List ℕ) (n : ℕ) → store_after 0 store was (command.Tell label) (reply.Told n) ≡ record store { board = finite.insert store.board label n }
-store_told store was label n = λ i. record { base = store.base; history = append-nil store.history i; stopped = store.stopped; limit = store.limit; renewed_limit = store.renewed_limit; installed = store.installed; halted = store.halted; board = finite.insert store.board label n }
+store_told store was label n = λ i. record { base = store.base; history = append-nil store.history i; stopped = store.stopped; limit = store.limit; renewed_limit = store.renewed_limit; installed = store.installed; halted = store.halted; board = finite.insert store.board label n; locked = locked_same store.locked was.txn (reply.Told n) refl i }
 
 -- only the label was told
 told_is : (label other : List ℕ) (n m : ℕ) → IsIn (told other m) (told label n ∷ []) → other ≡ label
@@ -53,6 +54,7 @@ module _ {D : Type 0} (z : SharedState D) (first : InstalledEdit) (old new : Sea
         replied = inl (ap reply.Told n_is);
         place = 0;
         store_is = subst (λ (x : Store). IsStoreOf z first new.knows.participant x) (sym (store_told store client label n)) grown;
+        locked = λ are. subst (AreLockedIn z new client.txn) (sym (store_told store client label n)) (goes_still z old new _ k.1 refl client.txn store are);
         client = refl;
         events = events;
         past = f.past;
@@ -87,7 +89,7 @@ module _ {D : Type 0} (z : SharedState D) (first : InstalledEdit) (old new : Sea
       (in_both (told label was.0) it.past events (subst (IsIn (told label was.0)) f.past was.1)) in
       quiet_answers z first old new only store is stood events f (one_quiet (heard label m) refl refl (λ edit. refl) (λ other q e. absurd cc)) client client (command.Hear label) (reply.Heard n)
       (record { logged = refl; fault = refl; installed = refl; tables = refl; board = λ b. refl })
-      (inl (ap reply.Heard n_is ∙ sym (hears (was.0, told_then)))) refl
+      (inl (ap reply.Heard n_is ∙ sym (hears (was.0, told_then)))) refl (goes_still z old new _ k.1.2 refl client.txn store)
     where
       -- something is on the board
       hears : (m : ℕ) × IsIn (told label m) it.past → due.heard (length store.history) (finite.get store.board label) label ≡ reply.Heard (length store.history)
@@ -97,7 +99,7 @@ module _ {D : Type 0} (z : SharedState D) (first : InstalledEdit) (old new : Sea
   silent_alone k =
       quiet_answers z first old new only store is stood [] (follows_on _ z old new _ k.1 [] refl (sym (append-nil it.past))) none_quiet client client (command.Hear label) (reply.Silent label)
       (record { logged = refl; fault = refl; installed = refl; tables = refl; board = λ b. refl })
-      (inl (sym (ap (λ (o : Option ℕ). due.heard (length store.history) o label) (none_there (finite.get store.board label) refl)))) refl
+      (inl (sym (ap (λ (o : Option ℕ). due.heard (length store.history) o label) (none_there (finite.get store.board label) refl)))) refl (goes_still z old new _ k.1 refl client.txn store)
     where
       none_there : (o : Option ℕ) → finite.get store.board label ≡ o → finite.get store.board label ≡ None
       none_there None e = e

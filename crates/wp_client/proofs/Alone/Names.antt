@@ -17,13 +17,14 @@ use Rattle.wp_open_txns.specs.declared.error.TxnError.TheVariants.{Taken, Unknow
 use Rattle.wp_open_txns.specs.Calls.{Begins, TakesPrepared}
 use Rattle.wp_open_txns.specs.Txn.{OpenState, HasOpen, PreparedState}
 use Rattle.wp_replies.specs.declared.client.LabelledSnapshot.{LabelledSnapshot}
-use Rattle.wp_replies.specs.declared.client.Txn.TheVariants.{Idle, Open, Prepared}
+use Rattle.wp_replies.specs.Txn.{Idle, Open, Prepared}
 use Rattle.wp_replies.specs.Client.{Client}
 use Rattle.wp_replies.specs.Due.{Store}
 use Rattle.wp_replies.specs.Plan.{begin_reply, take_reply}
 use Rattle.wp_client.specs.Alone.{IsOnly, IsStoreOf, AnswersAlone}
 use Rattle.wp_client.specs.Holdings.{staged_of}
 use Rattle.wp_client.proofs.Alone.Worlds.{only_of, left_name, open_is_free}
+use Rattle.wp_client.proofs.Alone.Kept.{goes_still, goes_unprepared}
 use Rattle.wp_client.proofs.Alone.Seated.{one_quiet, none_quiet, follows_on, alone_with_locks, history_with_locks, alone_at, is_alone, history_still, seen_still}
 use Rattle.wp_client.proofs.Alone.Quiet.{quiet_answers}
 
@@ -41,7 +42,7 @@ module _ {D : Type 0} (z : SharedState D) (first : InstalledEdit) (old new : Sea
       quiet_answers z first old new only store is stood events f (one_quiet (claimed name) refl refl (λ edit. refl) (λ label n e. absurd cc)) idle (record { txn = Open (staged_of txn); snapshots = snapshots }) (command.Begin name) reply.Begun
       (record { logged = refl; fault = refl; installed = refl; tables = refl; board = λ b. refl })
       (inl (sym (ap (λ (o : Option ℕ). begin_reply o name) free)))
-      (ap (λ (x : OpenState). record { txn = Open (staged_of x); snapshots = snapshots }) k.0)
+      (ap (λ (x : OpenState). record { txn = Open (staged_of x); snapshots = snapshots }) k.0) (goes_unprepared z old new _ k.2 Idle (Open (staged_of txn)) store tt)
 
   -- ---- where it has no transaction
 
@@ -51,11 +52,11 @@ module _ {D : Type 0} (z : SharedState D) (first : InstalledEdit) (old new : Sea
         let f = k.1 in
         let event : Event = found None (Txn name) (length old.knows.participant.seen) (account_of old.knows.participant f.world.locks f.published None (Txn name)) in
         let live : is_some (finite.get f.world.locks.names name) ≡ true = named_live name f.holds.0 f.holds.1 f.holds.2 in
-        let left = left_name f.world f.stood.there.reached f.stood.actor (alone_with_locks z first old only store is f.world f.stood) name live (ap (λ (p : Participant). finite.get p.transactions name) f.stood.participant ∙ none name) in
-        let there : named store.history name ≡ Some left.1.0 = ap (λ (h : List Entry). named h name) (sym (history_with_locks z first old only store is f.world f.stood)) ∙ left.1.1 in
+        let left = left_name f.world f.stood.stood.there.reached f.stood.stood.actor (alone_with_locks z first old only store is f.world f.stood.stood) name live (ap (λ (p : Participant). finite.get p.transactions name) f.stood.stood.participant ∙ none name) in
+        let there : named store.history name ≡ Some left.1.0 = ap (λ (h : List Entry). named h name) (sym (history_with_locks z first old only store is f.world f.stood.stood)) ∙ left.1.1 in
         quiet_answers z first old new only store is stood (event ∷ []) (follows_on _ z old new _ f.goes_on (event ∷ []) refl refl) (one_quiet event refl refl (λ edit. refl) (λ label n e. absurd cc)) idle idle (command.Begin name) (reply.Taken other)
         (record { logged = refl; fault = refl; installed = refl; tables = refl; board = λ b. refl })
-        (inl (ap reply.Taken k.0 ∙ sym (ap (λ (o : Option ℕ). begin_reply o name) there))) refl
+        (inl (ap reply.Taken k.0 ∙ sym (ap (λ (o : Option ℕ). begin_reply o name) there))) refl (goes_still z old new _ f.goes_on refl Idle store)
       where
         named_live : (n m : List ℕ) → Txn n ≡ Txn m → is_some (finite.get k.1.world.locks.names m) ≡ true → is_some (finite.get k.1.world.locks.names n) ≡ true
         named_live n m same live = let e : n ≡ m = cc in subst (λ (x : List ℕ). is_some (finite.get k.1.world.locks.names x) ≡ true) (sym e) live
@@ -68,7 +69,7 @@ module _ {D : Type 0} (z : SharedState D) (first : InstalledEdit) (old new : Sea
         let number : at ≡ length store.history = k.1 ∙ ap (λ (h : List Entry). length h) seen in
         quiet_answers z first old new only store is stood [] f none_quiet idle idle (command.Take name) (reply.Unknown other at)
         (record { logged = refl; fault = refl; installed = refl; tables = refl; board = λ b. refl })
-        (inl (ap (λ (x : List ℕ × ℕ). reply.Unknown x.0 x.1) (λ i. (k.0 i, number i)) ∙ sym (ap (λ (o : Option ℕ). take_reply store.history o name) free))) refl
+        (inl (ap (λ (x : List ℕ × ℕ). reply.Unknown x.0 x.1) (λ i. (k.0 i, number i)) ∙ sym (ap (λ (o : Option ℕ). take_reply store.history o name) free))) refl (goes_still z old new _ k.3 refl Idle store)
 
     -- nobody else has it
     pub never_in_use : (name other : List ℕ) → TakesPrepared z old name (Err (InUse other)) new → ⊥
@@ -86,4 +87,4 @@ module _ {D : Type 0} (z : SharedState D) (first : InstalledEdit) (old new : Sea
       quiet_answers z first old new only store is stood events f (one_quiet (took name) refl refl (λ edit. refl) (λ label n e. absurd cc)) idle (record { txn = Prepared txn.number; snapshots = snapshots }) (command.Take name) reply.Took
       (record { logged = refl; fault = refl; installed = refl; tables = refl; board = λ b. refl })
       (inl (sym (ap (λ (o : Option ℕ). take_reply store.history o name) there)))
-      (sym (ap (λ (o : Option ℕ). record { txn = Prepared (unwrap_or o 0); snapshots = snapshots }) there))
+      (sym (ap (λ (o : Option ℕ). record { txn = Prepared (unwrap_or o 0); snapshots = snapshots }) there)) (goes_unprepared z old new _ k.goes_on Idle (Prepared txn.number) store tt)

@@ -14,11 +14,12 @@ use Rattle.wp_shared.specs.Seats.{SharedState, SeatState, Stands}
 use Rattle.wp_open_txns.specs.Calls.{Keeps}
 use Rattle.wp_open_txns.specs.Txn.{PreparedState, HasPrepared}
 use Rattle.wp_replies.specs.declared.client.LabelledSnapshot.{LabelledSnapshot}
-use Rattle.wp_replies.specs.declared.client.Txn.{Txn}
+use Rattle.wp_replies.specs.Txn.{Txn}
 use Rattle.wp_replies.specs.Client.{Client, number_of, own_batch}
 use Rattle.wp_replies.specs.Due.{Store, due, board_after, client_after}
 use Rattle.wp_replies.specs.Plan.{read_reply, get_reply, get_at_reply}
 use Rattle.wp_client.specs.Alone.{IsOnly, IsStoreOf, AnswersAlone}
+use Rattle.wp_client.proofs.Alone.Kept.{goes_still}
 use Rattle.wp_client.proofs.Alone.Seated.{none_quiet, follows_on, seen_still}
 use Rattle.wp_client.proofs.Alone.Quiet.{LeavesStore, at_once, quiet_answers}
 
@@ -31,9 +32,13 @@ read_at_leaves : (key label : List ℕ) (value : Option (List ℕ)) (n : ℕ) �
 read_at_leaves key label (Some value) n = record { logged = refl; fault = refl; installed = refl; tables = refl; board = λ b. refl }
 read_at_leaves key label None n = record { logged = refl; fault = refl; installed = refl; tables = refl; board = λ b. refl }
 
-read_keeps : (history : List Entry) (was : Client) (c : Command) (value : Option (List ℕ)) (n : ℕ) → was ≡ client_after history was c (read_reply value n)
-read_keeps history was c (Some value) n = refl
-read_keeps history was c None n = refl
+read_keeps : (history : List Entry) (was : Client) (key : List ℕ) (value : Option (List ℕ)) (n : ℕ) → was ≡ client_after history was (command.Get key) (read_reply value n)
+read_keeps history was key (Some value) n = refl
+read_keeps history was key None n = refl
+
+read_at_keeps : (history : List Entry) (was : Client) (key label : List ℕ) (value : Option (List ℕ)) (n : ℕ) → was ≡ client_after history was (command.GetAt key label) (read_reply value n)
+read_at_keeps history was key label (Some value) n = refl
+read_at_keeps history was key label None n = refl
 
 -- a refusal by the client's own state leaves the board, whatever the command
 state_board : (c : Command) (b : Labels) → board_after b c reply.State ≡ b
@@ -44,7 +49,7 @@ module _ {D : Type 0} (z : SharedState D) (first : InstalledEdit) (old new : Sea
   -- the client's own state refuses the command
   pub state_alone : new ≡ old → (was : Client) (c : Command) → due store was c ≡ reply.State → AnswersAlone z first old new was was c reply.State store
   state_alone same was c is_due =
-      at_once z first old new only store is same was was c reply.State (record { logged = refl; fault = refl; installed = refl; tables = refl; board = λ b. state_board c b }) (inl (sym is_due)) refl
+      at_once z first old new only store is same was was c reply.State (record { logged = refl; fault = refl; installed = refl; tables = refl; board = λ b. state_board c b }) (inl (sym is_due)) refl refl
 
   -- the changes of a prepared transaction are those of its prepare
   pub prepared_changes : (t : PreparedState) → HasPrepared old t → batch_at store.history t.number ≡ t.batch
@@ -60,12 +65,12 @@ module _ {D : Type 0} (z : SharedState D) (first : InstalledEdit) (old new : Sea
       pub got_own_alone : new ≡ old → (value : List ℕ) → change_to batch key ≡ Some (Some value) → AnswersAlone z first old new client client (command.Get key) (reply.GotOwn value) store
       got_own_alone same value said =
           at_once z first old new only store is same client client (command.Get key) (reply.GotOwn value) (record { logged = refl; fault = refl; installed = refl; tables = refl; board = λ b. refl })
-          (inl (sym (ap (λ (o : Option (Option (List ℕ))). get_reply store.history o key) (ap (λ (cs : List Change). change_to cs key) own ∙ said)))) refl
+          (inl (sym (ap (λ (o : Option (Option (List ℕ))). get_reply store.history o key) (ap (λ (cs : List Change). change_to cs key) own ∙ said)))) refl refl
 
       pub missing_own_alone : new ≡ old → change_to batch key ≡ Some None → AnswersAlone z first old new client client (command.Get key) reply.MissingOwn store
       missing_own_alone same said =
           at_once z first old new only store is same client client (command.Get key) reply.MissingOwn (record { logged = refl; fault = refl; installed = refl; tables = refl; board = λ b. refl })
-          (inl (sym (ap (λ (o : Option (Option (List ℕ))). get_reply store.history o key) (ap (λ (cs : List Change). change_to cs key) own ∙ said)))) refl
+          (inl (sym (ap (λ (o : Option (Option (List ℕ))). get_reply store.history o key) (ap (λ (cs : List Change). change_to cs key) own ∙ said)))) refl refl
 
       -- ---- what a snapshot for this alone shows
 
@@ -80,7 +85,7 @@ module _ {D : Type 0} (z : SharedState D) (first : InstalledEdit) (old new : Sea
           let shown : value ≡ value_at store.history key (length store.history) = value_is ∙ ap (λ (x : List Entry × ℕ). value_at x.0 key x.1) (λ i. (seen i, at_is i)) in
           quiet_answers z first old new only store is stood [] f none_quiet client client (command.Get key) (read_reply value at) (read_leaves key value at)
           (inl (ap (λ (x : Option (List ℕ) × ℕ). read_reply x.0 x.1) (λ i. (shown i, at_is i)) ∙ sym (ap (λ (o : Option (Option (List ℕ))). get_reply store.history o key) (ap (λ (cs : List Change). change_to cs key) own ∙ said))))
-          (read_keeps store.history client (command.Get key) value at)
+          (read_keeps store.history client key value at) (goes_still z old new _ keeps refl txn store)
 
     -- ---- at a snapshot of its own
 
@@ -90,9 +95,9 @@ module _ {D : Type 0} (z : SharedState D) (first : InstalledEdit) (old new : Sea
         let f = follows_on _ z old new _ keeps [] refl (sym (append-nil old.knows.participant.past)) in
         let shown : value ≡ value_at store.history key n = value_is ∙ ap (λ (h : List Entry). value_at h key n) (seen_still z first old new only store is stood [] f) in
         quiet_answers z first old new only store is stood [] f none_quiet client client (command.GetAt key label) (read_reply value n) (read_at_leaves key label value n)
-        (inl (ap (λ (v : Option (List ℕ)). read_reply v n) shown ∙ sym (ap (λ (o : Option ℕ). get_at_reply store.history o key label) labelled))) (read_keeps store.history client (command.GetAt key label) value n)
+        (inl (ap (λ (v : Option (List ℕ)). read_reply v n) shown ∙ sym (ap (λ (o : Option ℕ). get_at_reply store.history o key label) labelled))) (read_at_keeps store.history client key label value n) (goes_still z old new _ keeps refl txn store)
 
     pub unknown_snapshot_alone : new ≡ old → (key label : List ℕ) → number_of snapshots label ≡ None → AnswersAlone z first old new client client (command.GetAt key label) (reply.UnknownSnapshot label) store
     unknown_snapshot_alone same key label none =
         at_once z first old new only store is same client client (command.GetAt key label) (reply.UnknownSnapshot label) (record { logged = refl; fault = refl; installed = refl; tables = refl; board = λ b. refl })
-        (inl (sym (ap (λ (o : Option ℕ). get_at_reply store.history o key label) none))) refl
+        (inl (sym (ap (λ (o : Option ℕ). get_at_reply store.history o key label) none))) refl refl

@@ -13,12 +13,13 @@ use Rattle.wp_shared.specs.Calls.{Continues}
 use Rattle.wp_shared.specs.Seats.{SharedState, SeatState, Stands}
 use Rattle.wp_replies.specs.declared.client.TheConstants.{MOST_SNAPSHOTS}
 use Rattle.wp_replies.specs.declared.client.LabelledSnapshot.{LabelledSnapshot}
-use Rattle.wp_replies.specs.declared.client.Txn.{Txn}
+use Rattle.wp_replies.specs.Txn.{Txn}
 use Rattle.wp_replies.specs.Client.{Client, number_of, without_label}
 use Rattle.wp_replies.specs.Due.{Store}
 use Rattle.wp_replies.specs.Plan.{free_reply}
 use Rattle.wp_replies.specs.Replies.{refuses_label}
 use Rattle.wp_client.specs.Alone.{IsOnly, IsStoreOf, AnswersAlone}
+use Rattle.wp_client.proofs.Alone.Kept.{goes_still}
 use Rattle.wp_client.proofs.Alone.Seated.{none_quiet, follows_on, seen_still}
 use Rattle.wp_client.proofs.Alone.Quiet.{at_once, quiet_answers}
 
@@ -43,14 +44,14 @@ module _ {D : Type 0} (z : SharedState D) (first : InstalledEdit) (old new : Sea
         let n_is : r.number ≡ length store.history = number ∙ ap (λ (h : List Entry). length h) (seen_still z first old new only store is stood [] f) in
         quiet_answers z first old new only store is stood [] f none_quiet client (record { txn = txn; snapshots = snapshots ++ record { label = label; number = r.number } ∷ [] }) (command.Snap label) (reply.Snapped r.number)
         (record { logged = refl; fault = refl; installed = refl; tables = refl; board = λ b. refl })
-        (inl (ap reply.Snapped n_is ∙ sym (ap (λ (o : Option Reply). unwrap_or o (reply.Snapped (length store.history))) none))) refl
+        (inl (ap reply.Snapped n_is ∙ sym (ap (λ (o : Option Reply). unwrap_or o (reply.Snapped (length store.history))) none))) refl (goes_still z old new _ goes refl txn store)
 
     pub freed_alone : (n : ℕ) → number_of snapshots label ≡ Some n → (left : List Registration) → Continues z old new (record old.knows.participant { registered = left })
         → AnswersAlone z first old new client (record { txn = txn; snapshots = without_label snapshots label }) (command.Free label) reply.Freed store
     freed_alone n labelled left goes =
         quiet_answers z first old new only store is stood [] (follows_on _ z old new _ goes [] refl (sym (append-nil old.knows.participant.past))) none_quiet client (record { txn = txn; snapshots = without_label snapshots label }) (command.Free label) reply.Freed
         (record { logged = refl; fault = refl; installed = refl; tables = refl; board = λ b. refl })
-        (inl (sym (ap (λ (o : Option ℕ). free_reply o label) labelled))) refl
+        (inl (sym (ap (λ (o : Option ℕ). free_reply o label) labelled))) refl (goes_still z old new _ goes refl txn store)
 
   -- ---- refused
 
@@ -58,10 +59,10 @@ module _ {D : Type 0} (z : SharedState D) (first : InstalledEdit) (old new : Sea
   not_snapped_alone same r refused = ⊎_elim
       (λ (e : r ≡ reply.Taken label).
       subst (λ (x : Reply). AnswersAlone z first old new client client (command.Snap label) x store) (sym e)
-      (at_once z first old new only store is same client client (command.Snap label) (reply.Taken label) (record { logged = refl; fault = refl; installed = refl; tables = refl; board = λ b. refl }) (inl (sym (due_is (reply.Taken label) (refused ∙ ap Some e)))) refl))
+      (at_once z first old new only store is same client client (command.Snap label) (reply.Taken label) (record { logged = refl; fault = refl; installed = refl; tables = refl; board = λ b. refl }) (inl (sym (due_is (reply.Taken label) (refused ∙ ap Some e)))) refl refl))
       (λ (e : r ≡ reply.TooMany).
       subst (λ (x : Reply). AnswersAlone z first old new client client (command.Snap label) x store) (sym e)
-      (at_once z first old new only store is same client client (command.Snap label) reply.TooMany (record { logged = refl; fault = refl; installed = refl; tables = refl; board = λ b. refl }) (inl (sym (due_is reply.TooMany (refused ∙ ap Some e)))) refl))
+      (at_once z first old new only store is same client client (command.Snap label) reply.TooMany (record { logged = refl; fault = refl; installed = refl; tables = refl; board = λ b. refl }) (inl (sym (due_is reply.TooMany (refused ∙ ap Some e)))) refl refl))
       (refused_is snapshots label r refused)
     where
       due_is : (x : Reply) → refuses_label snapshots label ≡ Some x → unwrap_or (refuses_label snapshots label) (reply.Snapped (length store.history)) ≡ x
@@ -70,4 +71,4 @@ module _ {D : Type 0} (z : SharedState D) (first : InstalledEdit) (old new : Sea
   pub not_freed_alone : new ≡ old → number_of snapshots label ≡ None → AnswersAlone z first old new client client (command.Free label) (reply.UnknownSnapshot label) store
   not_freed_alone same none =
       at_once z first old new only store is same client client (command.Free label) (reply.UnknownSnapshot label) (record { logged = refl; fault = refl; installed = refl; tables = refl; board = λ b. refl })
-      (inl (sym (ap (λ (o : Option ℕ). free_reply o label) none))) refl
+      (inl (sym (ap (λ (o : Option ℕ). free_reply o label) none))) refl refl

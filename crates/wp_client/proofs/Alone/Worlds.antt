@@ -1,6 +1,5 @@
 -- What is so in a reached world of an actor that is alone there.
-use Rattle.std.proofs.Common.{◌≡◌, inr, ℕ, ◌≤◌, true, false, true≢false, List, length, refl, sym, subst, ap, ◌∙◌, Option, Some, None, is_some, arith}
-use Rattle.std.specs.Prelude.{unwrap_or}
+use Rattle.std.proofs.Common.{◌≡◌, ◌⊎◌, ⊎_elim, inl, inr, ℕ, ◌<◌, ◌≤◌, Bool, true, false, true≢false, List, length, refl, sym, ap, ◌∙◌, Option, Some, None, is_some, arith}
 use mathlib.Core.Option.{some}
 use lib.ListN.{get_elem?}
 use Rattle.std.specs.FinSet as set
@@ -8,7 +7,8 @@ use Rattle.std.specs.FinMap as finite
 use Rattle.std.proofs.lemmas.Slice.Eq.{bytes_eq-Decides}
 use Rattle.wp_model.specs.declared.holder.Holder.{Holder}
 use Rattle.wp_model.specs.declared.holder.Holder.TheVariants.{Txn, Client}
-use Rattle.wp_model.specs.History.{is_changed, name_at, batch_at, named, holder_of}
+use Rattle.wp_model.specs.History.{is_changed, is_undecided, name_at, batch_at, named, holder_of}
+use Rattle.wp_model.specs.LockState.{is_among_keys}
 use Rattle.wp_model.proofs.Found.{found_holder, found_named}
 use Rattle.wp_core.specs.Alone.{IsAlone, IsOnlyOf}
 use Rattle.wp_core.specs.Lists.{IsIn, one_if, total}
@@ -19,7 +19,7 @@ use Rattle.wp_core.specs.Sound.Actors.{StartsWith, participants_of, seen_of}
 use Rattle.wp_core.specs.Sound.Locks.{owner_of}
 use Rattle.wp_core.specs.Sound.Pasts.{past_of, closes_log}
 use Rattle.wp_core.specs.Sound.Views.{noter_of}
-use Rattle.wp_core.specs.Views.{Event, unprepared, told, heard, stopped}
+use Rattle.wp_core.specs.Views.{Event, unprepared, locks_stay, told, heard, stopped}
 use Rattle.wp_core.proofs.AllParticipants.{mine}
 use Rattle.wp_core.proofs.EachStep.{reached_is_sound}
 use Rattle.wp_core.proofs.Frames.{at_map}
@@ -59,6 +59,11 @@ module _ (w : World) (reached : Reaches w) (j : ℕ) (a : Actor) (there : get_el
 
 -- ---- where it is alone
 
+-- just these keys are held for the transaction of this name
+pub record HoldsJust (w : World) (name : List ℕ) (is_key : List ℕ → Bool) : Type 0 where
+  pub among : (key : List ℕ) → finite.get w.locks.keys key ≡ Some (Txn name) → is_key key ≡ true
+  pub are_held : (key : List ℕ) → is_key key ≡ true → finite.get w.locks.keys key ≡ Some (Txn name)
+
 module _ (w : World) (reached : Reaches w) (a : Actor) (alone : IsAlone w a) where
   abbrev sound_there : IsSound w
   sound_there = reached_is_sound w reached
@@ -79,22 +84,48 @@ module _ (w : World) (reached : Reaches w) (a : Actor) (alone : IsAlone w a) whe
       by (Some None) e = (e, some_there (named w.writes.history name) (sound_there.locks.names_left name e))
       by (Some (Some client)) e = let k = only_of.names name client e in absurd (none_some (finite.get a.participant.transactions name) k.0 none k.1)
 
-  -- who holds a key, where it is not the actor itself, is an undecided prepare
+  -- who holds a key, where it is not the actor itself, is an undecided prepare, which changes the key, or was made since the opening
   pub held_by_prepare : (key : List ℕ) (holder : Holder) → finite.get w.locks.keys key ≡ Some holder → a.participant.direct ≡ None → ((name : List ℕ) → holder ≡ Txn name → finite.get a.participant.transactions name ≡ None)
-      → (p : ℕ) × (holder_of w.writes.history key ≡ Some p) × (holder ≡ Txn (name_at w.writes.history p))
+      → (p : ℕ) × (is_undecided w.writes.history p ≡ true) × (holder ≡ Txn (name_at w.writes.history p)) × ((holder_of w.writes.history key ≡ Some p) ⊎ (length w.opened < p))
   held_by_prepare key (Client client) held direct none = absurd (none_some a.participant.direct key direct (only_of.direct key client held))
   held_by_prepare key (Txn name) held direct none =
       let h = w.writes.history in
       let left = left_name name (sound_there.locks.keys_live key name held) (none name refl) in
       let p = left.1.0 in let is = left.1.1 in
-      let found = found_named h name p is in
-      let changed : is_changed (batch_at h p) key ≡ true = subst (λ (o : Option ℕ). is_changed (batch_at h (unwrap_or o 0)) key ≡ true) is (sound_there.locks.keys_left key name left.0 held) in
-      (p, holder_is h sound_there.history.legal p key found.0 changed, ap Txn (sym ((bytes_eq-Decides (name_at h p) name).0 found.1)))
+      let found = found_named h name p is in (
+        p,
+        found.0,
+        ap Txn (sym ((bytes_eq-Decides (name_at h p) name).0 found.1)),
+        ⊎_elim (λ (changed : is_changed (batch_at h p) key ≡ true). inl (holder_is h sound_there.history.legal p key found.0 changed)) (λ (k : (length w.opened < p) × _). inr k.0) (sound_there.locks.beyond key name p is held),
+      )
+
+  -- a key that nobody holds is no undecided prepare's
+  pub holds_no_free_key : (key : List ℕ) → finite.get w.locks.keys key ≡ None → holder_of w.writes.history key ≡ None
+  holds_no_free_key key free = by (holder_of w.writes.history key) refl
+    where
+      by : (o : Option ℕ) → holder_of w.writes.history key ≡ o → holder_of w.writes.history key ≡ None
+      by None e = e
+      by (Some p) e = let h = found_holder w.writes.history key p e in let both : Some (Txn (name_at w.writes.history p)) ≡ None = sym (sound_there.locks.prepared_keys p key h.0 h.1) ∙ free in absurd cc
 
   -- an open transaction's name is that of no undecided prepare, nor has one a key that it locked
   pub open_is_free : (name : List ℕ) → IsIn (unprepared name) a.notes → (named w.writes.history name ≡ None)
       × ((x : Transaction) (key : List ℕ) → finite.get a.participant.transactions name ≡ Some x → set.contains x.locked key ≡ true → holder_of w.writes.history key ≡ None)
   open_is_free name there = let so = (sound_there.noted 0 (noter_of a) (at_map noter_of w.actors 0 a alone.there) (unprepared name) there).is_so in (so.1, so.2)
+
+  -- the keys of a transaction that it has are those that this locked
+  pub had_holds : (name : List ℕ) (x : Transaction) (is_key : List ℕ → Bool) → finite.get a.participant.transactions name ≡ Some x → ((key : List ℕ) → set.contains x.locked key ≡ is_key key) → HoldsJust w name is_key
+  had_holds name x is_key has keys = record {
+    among = λ key held. sym (keys key) ∙ sound_there.locks.keys_known key name held 0 0 (owner_of a.participant) (mine owner_of w.actors 0 a a alone.there refl) x has;
+    are_held = λ key its. (sound_there.locks.had 0 0 (owner_of a.participant) (mine owner_of w.actors 0 a a alone.there refl)).keys name x key has (keys key ∙ its);
+  }
+
+  -- those of one that it left are those that it noted, while the prepare is undecided
+  pub left_holds : (name : List ℕ) (p : ℕ) (noted : List (List ℕ)) (is_key : List ℕ → Bool) → IsIn (locks_stay name p noted) a.notes → named w.writes.history name ≡ Some p → ((key : List ℕ) → is_among_keys noted key ≡ is_key key) → HoldsJust w name is_key
+  left_holds name p noted is_key there is are =
+      let so = (sound_there.noted 0 (noter_of a) (at_map noter_of w.actors 0 a alone.there) (locks_stay name p noted) there).is_so in let k = so.1 is in record {
+        among = λ key held. sym (are key) ∙ k.among key held;
+        are_held = λ key its. k.are_held key (are key ∙ its);
+      }
 
   -- where it found the log closed, that was when so many entries were published as are now
   pub was_stopped : (n : ℕ) → IsIn (stopped n) a.participant.past → (w.writes.closed ≡ true) × (n ≡ length w.writes.history)

@@ -161,3 +161,37 @@ returns-in-Compact-clause-uncalled g c = rw c.in-Compact.is (on_err_weaker c.com
 
 pub returns-in-Renew-clause-uncalled : goal.returns-in-Renew-clause-uncalled
 returns-in-Renew-clause-uncalled g c = rw c.in-Renew.is (on_err_weaker c.renew.result (λ k. k c.args.held.now.txn) c.renew.ensures.uncalled)
+
+pub pin-requires : goal.pin-requires
+pin-requires g c = (subst (Holds c.args.store.now c.args.seat.now) (sym c.held-in-Pin.view_is) c.requires).txn
+
+pub returns-in-Pin-clause-holds : goal.returns-in-Pin-clause-holds
+returns-in-Pin-clause-holds g c = whole_holds c.args.store.now c.args.seat.now c.pin.new.seat c.held-in-Pin.inside.txn c.pin.new.txn c.held-in-Pin.inside.snapshots.items c.pin.ensures.holds (subst (Holds c.args.store.now c.args.seat.now) (sym c.held-in-Pin.view_is) c.requires)
+
+pub returns-in-Pin-clause-answered : goal.returns-in-Pin-clause-answered
+returns-in-Pin-clause-answered g c = rw (c.in-Pin.is, ← c.held-in-Pin.view_is)
+    (whole_answers c.args.store.now c.args.seat.now c.pin.new.seat command.Pin c.pin.result c.held-in-Pin.inside.txn c.pin.new.txn c.held-in-Pin.inside.snapshots.items c.pin.ensures.answered)
+
+pub returns-in-Pin-clause-err : goal.returns-in-Pin-clause-err
+returns-in-Pin-clause-err g c = rw (c.in-Pin.is, ← c.held-in-Pin.view_is)
+    (whole_breaks c.args.store.now c.args.seat.now c.pin.new.seat command.Pin c.pin.result c.held-in-Pin.inside.txn c.pin.new.txn c.held-in-Pin.inside.snapshots.items c.pin.ensures.err)
+
+pub returns-in-Pin-clause-uncalled : goal.returns-in-Pin-clause-uncalled
+returns-in-Pin-clause-uncalled g c = rw c.in-Pin.is (if_broken c.pin.result (inr tt))
+
+pub lock-requires : goal.lock-requires
+lock-requires g c = (subst (Holds c.args.store.now c.args.seat.now) (sym c.held-in-Lock.view_is) c.requires).txn
+
+pub returns-in-Lock-clause-holds : goal.returns-in-Lock-clause-holds
+returns-in-Lock-clause-holds g c = whole_holds c.args.store.now c.args.seat.now c.lock.new.seat c.held-in-Lock.inside.txn c.lock.new.txn c.held-in-Lock.inside.snapshots.items c.lock.ensures.holds (subst (Holds c.args.store.now c.args.seat.now) (sym c.held-in-Lock.view_is) c.requires)
+
+pub returns-in-Lock-clause-answered : goal.returns-in-Lock-clause-answered
+returns-in-Lock-clause-answered g c = rw (c.in-Lock.is, ← c.held-in-Lock.view_is)
+    (whole_answers c.args.store.now c.args.seat.now c.lock.new.seat (command.Lock c.in-Lock.key) c.lock.result c.held-in-Lock.inside.txn c.lock.new.txn c.held-in-Lock.inside.snapshots.items c.lock.ensures.answered)
+
+pub returns-in-Lock-clause-err : goal.returns-in-Lock-clause-err
+returns-in-Lock-clause-err g c = rw (c.in-Lock.is, ← c.held-in-Lock.view_is)
+    (whole_breaks c.args.store.now c.args.seat.now c.lock.new.seat (command.Lock c.in-Lock.key) c.lock.result c.held-in-Lock.inside.txn c.lock.new.txn c.held-in-Lock.inside.snapshots.items c.lock.ensures.err)
+
+pub returns-in-Lock-clause-uncalled : goal.returns-in-Lock-clause-uncalled
+returns-in-Lock-clause-uncalled g c = rw c.in-Lock.is (if_broken c.lock.result (inr tt))

@@ -20,4 +20,4 @@ returns-in-Prepared-clause-holds g c = rw c.in-Prepared.is (given_up_prepared c.
 pub returns-in-Prepared-clause-answered : goal.returns-in-Prepared-clause-answered
 returns-in-Prepared-clause-answered g c =
     let z = c.args.store.now in let s = c.args.seat.now in let t = c.leave.new.seat in let prepared = c.in-Prepared.prepared in
-    rw c.in-Prepared.is (answers_from z s t (held.Prepared prepared) held.Idle command.Leave reply.Left (λ snapshots. left_answers z s t snapshots prepared c.leave.ensures.gives_up))
+    rw c.in-Prepared.is (answers_from z s t (held.Prepared prepared) held.Idle command.Leave reply.Left (λ snapshots. left_answers z s t snapshots prepared (rw c.in-Prepared.is at c.requires).has c.leave.ensures.noted c.leave.ensures.gives_up))

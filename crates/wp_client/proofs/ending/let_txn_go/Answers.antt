@@ -1,4 +1,7 @@
-use Rattle.std.proofs.Common.{subst, ◌∙◌}
+use Rattle.std.proofs.Common.{refl, subst, ◌∙◌}
+use Rattle.wp_read.specs.Registers.{unregistering}
+use Rattle.wp_open_txns.specs.Calls.{without_transaction}
+use Rattle.wp_open_txns.specs.Turns.{IsApartFrom}
 use Rattle.wp_client.specs.declared.holdings.HeldTxn.{HeldTxn}
 use Rattle.wp_client.specs.declared.holdings.HeldTxn.TheVariants as held
 use Rattle.wp_client.specs.Ends.{LetsGo}
@@ -21,10 +24,10 @@ pub returns-in-Open : goal.returns-in-Open
 returns-in-Open g c = λ h is.
     let z = c.args.store.now in let s = c.args.seat.now in let t = c.abandon.new.seat in let begun = c.in-Open.open in
     let has : HoldsTxn z s (held.Open begun) = subst (HoldsTxn z s) c.in-Open.is c.requires in
-    txn_let_go z s t begun.name (held.Open begun) c.abandon.ensures.gives_up (given_up_open z s t begun has c.abandon.ensures.gives_up) h (is ∙ c.in-Open.is)
+    txn_let_go (IsApartFrom begun.name) z s t (without_transaction begun.name (unregistering begun.pin s.knows.participant)) refl refl refl (held.Open begun) c.abandon.ensures.gives_up (given_up_open z s t begun has c.abandon.ensures.gives_up) h (is ∙ c.in-Open.is)
 
 pub returns-in-Prepared : goal.returns-in-Prepared
 returns-in-Prepared g c = λ h is.
     let z = c.args.store.now in let s = c.args.seat.now in let t = c.leave.new.seat in let prepared = c.in-Prepared.prepared in
     let has : HoldsTxn z s (held.Prepared prepared) = subst (HoldsTxn z s) c.in-Prepared.is c.requires in
-    txn_let_go z s t prepared.name (held.Prepared prepared) c.leave.ensures.gives_up (given_up_prepared z s t prepared has c.leave.ensures.gives_up) h (is ∙ c.in-Prepared.is)
+    txn_let_go (IsApartFrom prepared.name) z s t (without_transaction prepared.name s.knows.participant) refl refl refl (held.Prepared prepared) c.leave.ensures.gives_up (given_up_prepared z s t prepared has c.leave.ensures.gives_up) h (is ∙ c.in-Prepared.is)

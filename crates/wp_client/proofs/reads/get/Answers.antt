@@ -19,7 +19,7 @@ returns-in-Some-clause-answered g c =
 
 pub returns-clause-answered : goal.returns-clause-answered
 returns-clause-answered g c =
-    let z = c.args.store.now in let s = c.args.seat.now in let t = c.read_fresh.new.seat in let txn = c.args.txn.now in let key = c.args.key.now in
+    let z = c.args.store.now in let s = c.args.seat.now in let t = c.get_now.new.seat in let txn = c.args.txn.now in let key = c.args.key.now in
     let value = c.in_ok-value.value in let at = c.in_ok-value.at in
     let none : own_reply (change_to (batch_in txn) key) ≡ None = sym (c.in_ok-said.ensures {u = tt}) ∙ c.in_default.is in
     subst (λ (r : Reply). AnswersFrom z s t txn txn (command.Get key) r) (sym c.read_reply.ensures)
@@ -31,5 +31,5 @@ returns-in-Some-clause-published g c =
 
 pub returns-clause-published : goal.returns-clause-published
 returns-clause-published g c =
-    let z = c.args.store.now in let s = c.args.seat.now in let t = c.read_fresh.new.seat in let key = c.args.key.now in
+    let z = c.args.store.now in let s = c.args.seat.now in let t = c.get_now.new.seat in let key = c.args.key.now in
     subst (NamesSeen z s t (command.Get key)) (sym c.read_reply.ensures) (read_names z s t key c.in_ok-value.value c.in_ok-value.at c.in_ok-value.ensures.read.published)

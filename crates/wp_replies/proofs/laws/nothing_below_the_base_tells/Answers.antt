@@ -7,4 +7,5 @@ pub returns-clause-conditions : goal.returns-clause-conditions
 returns-clause-conditions c = λ evidence other progress client p command answer like from condition. condition_other evidence other like progress client p command answer from condition
 
 pub returns-clause-sessions : goal.returns-clause-sessions
-returns-clause-sessions c = λ evidence other progress commands answers like low session. session_other evidence other like progress new_client commands answers (record { last = low; txn = tt; snapshots = tt }) session
+returns-clause-sessions c = λ evidence other progress commands answers like low keys session.
+    session_other evidence other like progress new_client commands answers (record { last = low; txn = tt; snapshots = tt; keys = keys }) session
