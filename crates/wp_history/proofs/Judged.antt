@@ -4,7 +4,7 @@ use Rattle.std.specs.Prelude.{slice_get}
 use Rattle.std.specs.BTreeMap.{BTreeMap, IsOrdered, is_at}
 use Rattle.std.specs.Map.{lookup}
 use Rattle.std.proofs.lemmas.Bool.{cases_lt}
-use Rattle.std.proofs.lemmas.List.{take-take, take_all, take-append-le, take-append-drop, length-take}
+use Rattle.std.proofs.lemmas.List.{take-take, take_all, take-append-le, take-append-drop}
 use Rattle.std.proofs.lemmas.Option.{same_Some, slice_get_within}
 use Rattle.wp_model.specs.declared.change.Change.{Change}
 use Rattle.wp_model.specs.declared.entry.Entry.{Entry}
@@ -16,7 +16,7 @@ use Rattle.wp_model.specs.Legal.{IsLegal, IsLegalNext, IsOrderlyNext, RestoresPr
 use Rattle.wp_model.specs.Versions.{AreInOrder}
 use Rattle.wp_model.proofs.Entries.{entry_at_old, undecided_within, undecided_prepared}
 use Rattle.wp_history_laws.specs.Prepares.{prepare_of}
-use Rattle.wp_history_laws.proofs.Growth.{legal_next, legal_before}
+use Rattle.wp_history_laws.proofs.Growth.{legal_next}
 use Rattle.wp_cuts.specs.Cut.{Cut, base_value, full_of}
 use Rattle.wp_cuts.specs.LegalCut.{AreBelow, IsOrderlyCut, cut_front}
 use Rattle.wp_cuts.proofs.FullLegal.{full_is_legal_by, orderly_front}
@@ -184,13 +184,6 @@ module _ (old new : RoomyHistory) (store : BTreeMap (List ℕ) (List ℕ)) (same
     legal = subst IsLegal (sym are) (legal_next old.entries entry kept.legal after few);
     within = omega (arith, kept.within, same, ap length are, length-append old.entries (entry ∷ []));
     stored = has_still (λ key. ap (λ (es : List Entry). value_at es key old.base) are ∙ ap (λ (es : List Entry). newest es key) (take-append-le old.base old.entries (entry ∷ []) kept.within));
-  }
-
-  pub kept_cut : (n : ℕ) → old.base ≤ n → new.entries ≡ take n old.entries → IsKept new store
-  kept_cut n from are = record {
-    legal = subst IsLegal (sym are) (legal_before (take n old.entries) (drop n old.entries) (subst IsLegal (sym (take-append-drop n old.entries)) kept.legal));
-    within = omega (arith, kept.within, same, from, ap length are, length-take n old.entries);
-    stored = has_still (λ key. ap (λ (es : List Entry). value_at es key old.base) are ∙ ap (λ (es : List Entry). newest es key) (take-take old.base n old.entries from));
   }
 
 pub kept_none : (h : RoomyHistory) (store : BTreeMap (List ℕ) (List ℕ)) → h.base ≡ 0 → h.entries ≡ [] → store.entries ≡ [] → IsOrdered key_cmp store → IsKept h store

@@ -7,7 +7,7 @@ pub mod Taking
 pub mod Judged
 pub mod Kept
 pub mod LastChanges
-pub mod Noted
 pub mod Prior
 pub mod Sent
+pub mod StoreMaps
 pub mod TakenOut

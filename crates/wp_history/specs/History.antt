@@ -1,5 +1,5 @@
 -- A history in memory, from a base on: how its contracts see it, and how it is kept.
-use Rattle.std.specs.Prelude.{◌≡◌, ℕ, ◌≤◌, List, length, take, Option, if◌then◌else◌, nat_lt, None}
+use Rattle.std.specs.Prelude.{◌≡◌, ℕ, ◌≤◌, List, length, Option, if◌then◌else◌, nat_lt, None}
 use Rattle.std.specs.BTreeMap.{BTreeMap, IsOrdered, get}
 use Rattle.std.specs.Str.{bytes_eq}
 use Rattle.wp_model.specs.declared.carried.Carried.{Carried}
@@ -28,12 +28,10 @@ entry_behind h n = if nat_lt h.base n then entry_at h.entries n else None
 abbrev pub cut_of : ℕ → List Carried → List Entry → Cut
 cut_of base carried later = record { base = base; carried = carried; entries = later }
 
--- The cut is orderly, and the numbers are those of the undecided prepares of the full list that it stands for with the versions. There is
--- room for the undecided prepares of each list that it begins with.
-pub record IsOutline (c : Cut) (versions : List Version) (numbers : List ℕ) (room : ℕ) : Type 0 where
+-- The cut is orderly, and the numbers are those of the undecided prepares of the full list that it stands for with the versions.
+pub record IsOutline (c : Cut) (versions : List Version) (numbers : List ℕ) : Type 0 where
   pub cut : IsOrderlyCut c
   pub numbered : numbers ≡ undecided (full_of c versions)
-  pub roomy : (n : ℕ) → c.base ≤ n → n ≤ length (full_of c versions) → length (undecided (take n (full_of c versions))) ≤ room
 
 -- ---- as a history is kept
 

@@ -1,15 +1,13 @@
 -- What is judged of a history before its values are known, and what is left to judge then.
-use Rattle.std.specs.Prelude.{◌≡◌, ◌==◌, ℕ, ◌-◌, ◌<◌, ◌≤◌, Bool, true, ◌||◌, List, [], ◌∷◌, ◌++◌, take, Option, Some, None, slice_get, if◌then◌else◌}
+use Rattle.std.specs.Prelude.{◌≡◌, ℕ, ◌-◌, ◌<◌, ◌≤◌, Bool, ◌||◌, List, [], ◌∷◌, ◌++◌, take, Option, Some, None, slice_get, if◌then◌else◌}
 use Rattle.std.specs.List.{list_any}
 use Rattle.std.specs.Str.{bytes_eq}
 use Rattle.wp_model.specs.declared.carried.Carried.{Carried}
 use Rattle.wp_model.specs.declared.entry.Entry.{Entry}
-use Rattle.wp_model.specs.declared.entry.Entry.TheVariants.{Commit, Close}
 use Rattle.wp_model.specs.declared.version.Version.{Version}
 use Rattle.wp_model.specs.Batch.{key_of}
 use Rattle.wp_model.specs.History.{entry_at, is_changed}
 use Rattle.wp_model.specs.Legal.{IsLegal, IsOrderlyNext, NamesUndecided, RestoresPrior, UndoIsClosed}
-use Rattle.wp_history_laws.specs.Growth.{AreAscending, undecided_after}
 use Rattle.wp_cuts.specs.Cut.{Cut, cut_at, full_of}
 use Rattle.wp_history.specs.History.{RoomyHistory}
 
@@ -37,19 +35,6 @@ AreOrderly h = (n : ℕ) (entry : Entry) → h.base ≤ n → slice_get h.entrie
 pub record MayDecide (before : List Entry) (entry : Entry) : Type 0 where
   pub names_undecided : NamesUndecided before entry
   pub undo_is_closed : UndoIsClosed before entry
-
--- what the entry decides is among these
-abbrev pub DecidesAmong : List ℕ → Entry → Type 0
-DecidesAmong numbers (Commit p) = list_any (λ q. q == p) numbers ≡ true
-DecidesAmong numbers (Close p) = list_any (λ q. q == p) numbers ≡ true
-DecidesAmong numbers other = Unit {0}
-
--- the numbers are what the entry left of those that were undecided before it
-pub record IsNoted (numbers : List ℕ) (entry : Entry) (before : List ℕ) : Type 0 where
-  pub number : ℕ
-  pub after : numbers ≡ undecided_after before number entry
-  pub ascend : AreAscending before
-  pub among : DecidesAmong before entry
 
 -- ---- with the versions of a store
 

@@ -1,8 +1,10 @@
 ghost use Rattle.std.specs.Prelude.{◌≡◌, ◌↔◌, true, ◌+◌, ◌-◌, ◌<◌, ◌≤◌, [], ◌∷◌, ◌++◌, length, take, drop, IfOk, IfErr, IfSome, OnOk};
+ghost use Rattle.std.specs.FinMap as finite;
 ghost use Rattle.std.specs.List.{AllByRecursion};
 ghost use Rattle.std.specs.Option.{option_copied, option_map};
 ghost use Rattle.wp_model.specs.Changed.{conflict};
 ghost use Rattle.wp_model.specs.History.{entry_at, is_undecided, undecided, batch_at, name_at, named, holder_of, newest, value_at};
+ghost use Rattle.wp_model.specs.Rows.{stored};
 ghost use Rattle.wp_model.specs.Versions.{AreInOrder};
 ghost use Rattle.wp_model.specs.Legal.{IsLegal, IsLegalNext, change_that_leaves, log_end, prior, undone_last};
 ghost use Rattle.wp_history_laws.specs.Prepares.{prepare_of};
@@ -23,7 +25,7 @@ use wp_model::{Batch, Carried, Change, Entry, Key, Name, Seq, SetError, Value, V
 pub struct History {
     outline: Outline,
     store: BTreeMap<Key, Value>,
-    /// What clauses do not see, from the first time on that it is asked for a change.
+    /// A cache, which no clause sees: none until a change is first asked for, and again where memory was wanting for it.
     last_changes: Option<LastChanges>,
 }
 
@@ -226,8 +228,15 @@ impl History {
         self.outline.value_at(&self.store, key, n)
     }
 
-    /// The greatest number above n of an entry that changes the key, if there is one. From the first time on that it is asked, it
-    /// knows the last changes of what comes then, so that entries are gone through only down from there.
+    /// What all entries leave, key by key. It goes through the entries behind the base once.
+    pub fn stored(&self, alloc: Global) -> Result<BTreeMap<Key, Value>, AllocError>
+        ensures { IfOk result (λ store. store.entries ≡ finite.entries (stored self.now.entries)) }
+    {
+        self.outline.stored(alloc, &self.store)
+    }
+
+    /// The greatest number above n of an entry that changes the key, if there is one. Since the first time that it was asked, or the
+    /// first behind one at which memory was wanting, it knows the last changes of what came, so entries are gone through only down from there.
     pub fn changed_after(&mut self, alloc: Global, key: &Key, n: Seq) -> Option<Seq>
         requires { self.old.base ≤ n }
         ensures same { self.new ≡ self.old }
@@ -281,7 +290,7 @@ impl History {
         self.outline.reserve(n)
     }
 
-    /// Adds an entry, in memory that was taken before.
+    /// Adds an entry, in memory that was taken before; but for the last changes of keys, which are let go where memory is wanting.
     pub fn push(&mut self, entry: Entry)
         requires legal { IsLegalNext self.old.entries entry }
         requires few { length self.old.entries + 1 < log_end }
@@ -298,16 +307,6 @@ impl History {
         );
         self.outline.push(entry);
         self.last_changes = changes;
-    }
-
-    /// Takes all entries away but the first `n`, from the base on. It takes no memory, and leaves none for pushes.
-    pub fn truncate(&mut self, n: Seq)
-        requires { self.old.base ≤ n }
-        ensures base { self.new.base ≡ self.old.base }
-        ensures entries { self.new.entries ≡ take n self.old.entries }
-    {
-        self.outline.truncate(n);
-        self.last_changes = None;
     }
 }
 

@@ -1,10 +1,10 @@
 //! Which entries changed keys last, above a number.
-ghost use Rattle.std.specs.Prelude.{◌≡◌, ◌⊎◌, List, ℕ, [], None, Some, IfOk, IfSome};
+ghost use Rattle.std.specs.Prelude.{◌≡◌, ◌⊎◌, List, ℕ, [], None, Some, IfOk, IfSome, OnOk};
 ghost use Rattle.std.specs.BTreeMap.{get};
 ghost use Rattle.std.specs.Option.{option_map_or};
 ghost use Rattle.wp_model.specs.Batch.{key_cmp};
 ghost use Rattle.wp_history.specs.declared.last_changes.LastChanges.{LastChanges};
-ghost use Rattle.wp_history.specs.History.{IsStore};
+ghost use Rattle.wp_history.specs.History.{IsStore, Leaves};
 ghost use Rattle.wp_history.specs.Holders.{Marks};
 
 use std::alloc::{AllocError, Global};
@@ -19,6 +19,23 @@ pub struct LastChanges {
     last: BTreeMap<Key, Seq>,
 }
 
+/// Puts the number under the key. A key that has one already takes no memory.
+fn put_one(
+    alloc: Global,
+    last: &mut BTreeMap<Key, Seq>,
+    key: &Key,
+    number: Seq,
+) -> Result<(), AllocError>
+    ensures { OnOk result (Leaves key.now (Some number) last.old last.new) }
+{
+    if let Some(place) = last.get_mut(key) {
+        *place = number;
+        return Ok(());
+    }
+    last.insert(key.copy(alloc)?, number)?;
+    Ok(())
+}
+
 /// Puts the number under the key of each of the changes.
 fn put_under(
     alloc: Global,
@@ -29,7 +46,7 @@ fn put_under(
     ensures { IfOk result (λ done. Marks (Some number) changes.now last.old last.new) }
 {
     for change in changes {
-        last.insert(change.key().copy(alloc)?, number)?;
+        put_one(alloc, last, change.key(), number)?;
     }
     Ok(())
 }
@@ -64,7 +81,8 @@ pub(crate) fn begun(alloc: Global, changes: Option<LastChanges>, end: Seq) -> La
     }
 }
 
-/// Those with one more entry, which has that number and commits the batch, or none. None where memory is wanting for its keys.
+/// Those with one more entry, which has that number and commits this batch, if one is given. None where there were none, or where memory
+/// is wanting for its keys.
 pub(crate) fn behind(
     changes: Option<LastChanges>,
     batch: Option<&Batch>,

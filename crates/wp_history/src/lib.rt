@@ -19,6 +19,7 @@ mod legality;
 mod numbers;
 mod outline;
 mod prepares;
+mod stored;
 mod values;
 
 pub use history::History;

@@ -1,4 +1,4 @@
-ghost use Rattle.std.specs.Prelude.{◌≡◌, ◌==◌, ℕ, List, None, true, ◌+◌, ◌-◌, ◌<◌, ◌≤◌, [], ◌∷◌, ◌++◌, length, map, take, drop, IfOk, OnOk};
+ghost use Rattle.std.specs.Prelude.{◌≡◌, ◌==◌, None, true, ◌+◌, ◌-◌, ◌<◌, ◌≤◌, [], ◌∷◌, ◌++◌, length, map, take, drop, IfOk, OnOk};
 ghost use Rattle.std.specs.List.{AllByRecursion, find};
 ghost use Rattle.std.specs.Option.{option_copied, option_map};
 ghost use Rattle.wp_model.specs.Batch.{are_ascending};
@@ -9,8 +9,7 @@ ghost use Rattle.wp_history_laws.specs.Prepares.{prepare_of};
 ghost use Rattle.wp_cuts.specs.Cut.{carried_of, is_start};
 ghost use Rattle.wp_cuts.specs.LegalCut.{AreNumbered, IsOrderlyCut, prepares_of};
 ghost use Rattle.wp_history.specs.History.{cut_of, entry_behind};
-ghost use Rattle.wp_history.specs.Numbers.{places};
-ghost use Rattle.wp_history.specs.Outline.{AreOrderly, IsNoted, collision_of, cut_in, full_with};
+ghost use Rattle.wp_history.specs.Outline.{AreOrderly, collision_of, cut_in, full_with};
 
 use crate::numbers::Numbers;
 use std::alloc::{AllocError, Global};
@@ -36,13 +35,12 @@ impl Model for Outline {
     ghost use Rattle.std.specs.Vec.{vec_capacity};
     ghost use Rattle.wp_cuts.specs.Cut.{full_of};
     ghost use Rattle.wp_history.specs.History.{RoomyHistory, IsOutline, cut_of};
-    ghost use Rattle.wp_history.specs.Numbers.{places};
 
     ghost Value = { RoomyHistory };
 
     ghost view = { λ o. record { base = o.base; entries = full_of (cut_of o.base o.carried.items o.later.items) o.versions.value; room = o.room } };
 
-    ghost invariant = { λ o. IsOutline (cut_of o.base o.carried.items o.later.items) o.versions.value o.undecided.items (places o.undecided)
+    ghost invariant = { λ o. IsOutline (cut_of o.base o.carried.items o.later.items) o.versions.value o.undecided.items
         × (vec_len o.later + o.room ≤ vec_capacity o.later) × (o.room ≤ o.undecided.room) };
 }
 
@@ -52,25 +50,10 @@ fn note_undecided(undecided: &mut Numbers, number: Seq, entry: &Entry)
     requires ascending { AreAscending undecided.old.items }
     ensures numbers { undecided.new.items ≡ undecided_after undecided.old.items number entry.now }
     ensures room { undecided.old.room ≤ undecided.new.room + 1 }
-    ensures places { places undecided.old ≤ places undecided.new }
 {
     match entry {
         Entry::Prepare(_, _) => undecided.push(number),
         Entry::Commit(p) | Entry::Close(p) => undecided.take_out(*p),
-        Entry::Write(_) | Entry::Undo(_, _) => {}
-    }
-}
-
-/// Takes the numbers back to those before the entry that was noted last.
-fn take_back(undecided: &mut Numbers, entry: &Entry)
-    requires room { (before : List ℕ) × IsNoted undecided.old.items entry.now before × (length before ≤ places undecided.old) }
-    ensures numbers { (before : List ℕ) → IsNoted undecided.old.items entry.now before → undecided.new.items ≡ before }
-    ensures places { places undecided.old ≤ places undecided.new }
-{
-    match entry {
-        Entry::Prepare(_, _) => undecided.pop(),
-        Entry::Commit(p) => undecided.put_back(*p),
-        Entry::Close(p) => undecided.put_back(*p),
         Entry::Write(_) | Entry::Undo(_, _) => {}
     }
 }
@@ -86,7 +69,7 @@ fn numbers_of(alloc: Global, carried: &[Carried]) -> Result<Vec<Seq>, AllocError
     Ok(numbers)
 }
 
-/// The carried prepare with that number, which is found by halves.
+/// The carried prepare with that number, which is found by binary search.
 fn carried_in(carried: &[Carried], p: Seq) -> Option<&Carried>
     requires { AreAscending (map (λ x. x.number) carried.now) }
     ensures { option_copied result ≡ find (λ x. x.number == p) carried.now }
@@ -275,30 +258,6 @@ impl Outline {
         note_undecided(&mut self.undecided, number, &entry);
         self.later.push(entry).unwrap();
         self.room -= 1;
-    }
-
-    /// Takes the last entry away, which is behind the base.
-    fn pop(&mut self)
-        requires { self.old.base < length self.old.entries }
-        ensures base { self.new.base ≡ self.old.base }
-        ensures entries { self.new.entries ≡ take (length self.old.entries - 1) self.old.entries }
-    {
-        match self.later.pop() {
-            Some(last) => take_back(&mut self.undecided, &last),
-            None => unreachable!(),
-        }
-        self.room = 0;
-    }
-
-    /// Takes all entries away but the first `n`, from the base on. It takes no memory, and leaves none for pushes.
-    pub fn truncate(&mut self, n: Seq)
-        requires { self.old.base ≤ n }
-        ensures base { self.new.base ≡ self.old.base }
-        ensures entries { self.new.entries ≡ take n self.old.entries }
-    {
-        while self.published() > n {
-            self.pop();
-        }
     }
 }
 

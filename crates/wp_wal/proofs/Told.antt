@@ -213,7 +213,7 @@ is_base_of h base bytes cut is spelling = subst (λ (c : Cut). IsBaseOf c bytes)
 pub told_base : (h : RoomyHistory) (base : Base) → cut_in h ≡ cut_of base.number base.carried [] → h.entries ≡ prepares_of (cut_of base.number base.carried []) → IsBase base → collision_of base.carried ≡ None → IsTold h
 told_base h base cut full is apart =
     let small = is.small in
-    let kept = kept_at_base base.number base.carried [] (map (λ (x : Carried). x.number) base.carried) (length (map (λ (x : Carried). x.number) base.carried)) (omega (arith, small)) (numbered_base base is) (are_apart base.number base.carried (ascending_base base is) apart) refl (omega arith) in
+    let kept = kept_at_base base.number base.carried [] (map (λ (x : Carried). x.number) base.carried) (omega (arith, small)) (numbered_base base is) (are_apart base.number base.carried (ascending_base base is) apart) refl in
     record {
       full = full ∙ ap prepares_of (sym cut);
       judged = subst IsJudged (sym cut) (record { orderly = kept.cut; legal = λ none. record { few = omega arith; each = λ n entry at. absurd cc } });

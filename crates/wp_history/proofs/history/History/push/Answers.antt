@@ -1,4 +1,4 @@
-use Rattle.std.proofs.Common.{◌+◌, Option, sym, subst, arith}
+use Rattle.std.proofs.Common.{Option, sym, subst, arith}
 use Rattle.std.specs.Option.{IfSome}
 use Rattle.wp_history.specs.declared.last_changes.LastChanges.{LastChanges}
 use Rattle.wp_history.specs.LastChanges.{AreLastChanges}

@@ -1,4 +1,4 @@
-use Rattle.std.proofs.Common.{[], refl, sym, ◌∙◌, arith, rules}
+use Rattle.std.proofs.Common.{[], refl, sym, ◌∙◌, rules}
 use Rattle.wp_cuts.proofs.FullList.{full_is_cut}
 use Rattle.wp_history.specs.History.{cut_of}
 use Rattle.wp_history.proofs.Apart.{are_apart}
@@ -8,7 +8,7 @@ use Rattle.wp_history.proofs.outline.Outline.from_base.Goals as goal
 
 pub invariant_of-result : goal.invariant_of-result
 invariant_of-result c = (
-  rw c.new-later.ensures.items (kept_at_base _ _ _ _ _ c.requires.few c.requires.numbered (are_apart _ _ c.requires.ascending c.requires.apart) (c.of-undecided.ensures ∙ (rw c.deref.ensures.value at c.in_ok-numbers.ensures)) (omega arith)),
+  rw c.new-later.ensures.items (kept_at_base _ _ _ _ c.requires.few c.requires.numbered (are_apart _ _ c.requires.ascending c.requires.apart) (c.of-undecided.ensures ∙ (rw c.deref.ensures.value at c.in_ok-numbers.ensures))),
   search rules,
   search rules,
 )

@@ -21,7 +21,7 @@ returns-clause-starts c =
     rw (← c.self.view_is) (starts_are (cut_of inside.base inside.carried.items inside.later.items) inside.versions.value)
 
 pub returns-clause-orderly : goal.returns-clause-orderly
-returns-clause-orderly c = rw (← c.self.view_is) (orderly_there _ _ _ _ c.self.invariant.0)
+returns-clause-orderly c = rw (← c.self.view_is) (orderly_there _ _ _ c.self.invariant.0)
 
 pub returns-clause-few : goal.returns-clause-few
 returns-clause-few c =

@@ -4,7 +4,7 @@ use Rattle.wp_history.proofs.Kept.{numbers_ascend, kept_next, full_next, cut_nex
 use Rattle.wp_history.proofs.outline.Outline.push.Goals as goal
 
 pub note_undecided-requires-clause-ascending : goal.note_undecided-requires-clause-ascending
-note_undecided-requires-clause-ascending c = numbers_ascend _ _ _ _ c.self.invariant.0
+note_undecided-requires-clause-ascending c = numbers_ascend _ _ _ c.self.invariant.0
 
 pub invariant_of-self : goal.invariant_of-self
 invariant_of-self c =
@@ -12,7 +12,7 @@ invariant_of-self c =
     let pushed = rw c.unwrap.ensures at c.push.ensures.items in
     let longer : vec_len c.push.new.self ≡ vec_len c.self.inside.later + 1 = rw c.unwrap.ensures at c.push.ensures.len in
     let room : 1 ≤ c.self.inside.room = rw (← c.self.view_is) at c.requires.room in (
-      kept_next _ _ _ _ _ _ _ c.args.entry _ _ _ _ c.self.invariant.0 same c.requires.orderly c.published-number.ensures.value c.requires.few pushed c.note_undecided.ensures.numbers c.note_undecided.ensures.places (omega arith),
+      kept_next _ _ _ _ _ _ c.args.entry _ _ _ c.self.invariant.0 same c.requires.orderly c.published-number.ensures.value c.requires.few pushed c.note_undecided.ensures.numbers,
       omega (arith, c.self.invariant.1, c.push.ensures.capacity),
       omega (arith, c.self.invariant.2, c.note_undecided.ensures.room),
     )

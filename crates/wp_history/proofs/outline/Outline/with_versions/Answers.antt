@@ -3,7 +3,7 @@ use Rattle.wp_history.proofs.Kept.{kept_with, with_versions_is, cut_is_orderly}
 use Rattle.wp_history.proofs.outline.Outline.with_versions.Goals as goal
 
 pub invariant_of-outline : goal.invariant_of-outline
-invariant_of-outline c = (kept_with _ _ c.args.versions.value _ _ c.outline.invariant.0, c.outline.invariant.1, c.outline.invariant.2)
+invariant_of-outline c = (kept_with _ _ c.args.versions.value _ c.outline.invariant.0, c.outline.invariant.1, c.outline.invariant.2)
 
 pub returns-clause-whole : goal.returns-clause-whole
 returns-clause-whole c =

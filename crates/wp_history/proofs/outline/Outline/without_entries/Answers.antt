@@ -5,7 +5,7 @@ use Rattle.wp_history.proofs.outline.Outline.without_entries.Goals as goal
 
 pub invariant_of-result : goal.invariant_of-result
 invariant_of-result c = (
-  rw (c.new-carried.ensures.items, c.requires, c.of-undecided.ensures, c.new.ensures.items) (kept_nothing _ _),
+  rw (c.new-carried.ensures.items, c.requires, c.of-undecided.ensures, c.new.ensures.items) (kept_nothing _),
   search rules,
   search rules,
 )
