@@ -1,4 +1,3 @@
 pub mod WordLemmas
 pub mod GeneratorLemmas
 pub mod Apart
-pub mod KeyLemmas

@@ -28,7 +28,7 @@ count_lines sessions =
     ++ count_line (codes "gets") (count_of Gets sessions)
     ++ count_line (codes "missing") (count_of Missing sessions)
 
--- the summary of these replies of the clients and of the history that is left, where the store had these values at the base
-abbrev pub summary_of : (seed clients lines : ℕ) → List (List Reply) → (base : ℕ) → List (List ℕ × List ℕ) → List Entry → List ℕ
-summary_of seed clients lines sessions base store history =
-    made_line seed clients lines ++ end_line (length history) (length (undecided history)) ++ count_lines sessions ++ store_line (store_of base store history)
+-- the summary of these replies of the clients and of the history that is left
+abbrev pub summary_of : (seed clients lines : ℕ) → List (List Reply) → List Entry → List ℕ
+summary_of seed clients lines sessions history =
+    made_line seed clients lines ++ end_line (length history) (length (undecided history)) ++ count_lines sessions ++ store_line (store_of history)

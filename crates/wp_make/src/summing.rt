@@ -5,9 +5,7 @@ ghost use Rattle.wp_make.specs.Totals.{count_of, store_of};
 use crate::kind::{Kind, count_of};
 use crate::sizes::{Sizes, store_of};
 use std::alloc::{AllocError, Global};
-use std::collections::BTreeMap;
 use wp_history::History;
-use wp_model::{Key, Value};
 use wp_text::{Reply, end_line};
 
 fn made_line(
@@ -48,21 +46,16 @@ fn count_lines(alloc: Global, out: &mut Vec<u8>, sessions: &[&[Reply]]) -> Resul
     count_line(alloc, out, "missing", Kind::Missing, sessions)
 }
 
-fn store_line(
-    alloc: Global,
-    out: &mut Vec<u8>,
-    history: &History,
-    store: &BTreeMap<Key, Value>,
-) -> Result<(), AllocError>
-    ensures { OnOk result (out.new.items ≡ out.old.items ++ text.store_line (store_of history.now.base store.now.entries history.now.entries)) }
+fn store_line(alloc: Global, out: &mut Vec<u8>, history: &History) -> Result<(), AllocError>
+    ensures { OnOk result (out.new.items ≡ out.old.items ++ text.store_line (store_of history.now.entries)) }
 {
-    let Sizes { keys, bytes } = store_of(alloc, history, store)?;
+    let Sizes { keys, bytes } = store_of(alloc, history)?;
     let line = format!(in alloc; "store {keys} {bytes}\n")?;
     out.extend_from_slice(line.as_bytes())
 }
 
-/// The summary of a made script's run, by what its clients were answered and the history that is left, where the store is what
-/// there was at its base. The script is named by its numbers. A count that its type does not hold is answered as want of memory.
+/// The summary of a made script's run, by what its clients were answered and the history that is left. The script is named by its
+/// numbers. A count that its type does not hold is answered as want of memory.
 pub fn summary(
     alloc: Global,
     seed: u32,
@@ -70,15 +63,14 @@ pub fn summary(
     lines: u32,
     sessions: &[&[Reply]],
     history: &History,
-    store: &BTreeMap<Key, Value>,
 ) -> Result<Vec<u8>, AllocError>
-    ensures { IfOk result (λ out. out.items ≡ text.summary_of seed clients lines (map (λ replies. replies.now) sessions.now) history.now.base store.now.entries history.now.entries) }
+    ensures { IfOk result (λ out. out.items ≡ text.summary_of seed clients lines (map (λ replies. replies.now) sessions.now) history.now.entries) }
 {
     let mut out = Vec::new(alloc);
     made_line(alloc, &mut out, seed, clients, lines)?;
     let undecided = history.undecided().len() as u64;
     end_line(&mut out, history.published(), undecided)?;
     count_lines(alloc, &mut out, sessions)?;
-    store_line(alloc, &mut out, history, store)?;
+    store_line(alloc, &mut out, history)?;
     Ok(out)
 }

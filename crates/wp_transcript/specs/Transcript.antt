@@ -32,5 +32,5 @@ transcript_of script sessions base store history =
 
 -- the text of a command: of a script that it made the summary, else the transcript
 abbrev pub text_of : Action → List Part → List (List Reply) → (base : ℕ) → List (List ℕ × List ℕ) → List Entry → List ℕ
-text_of (action.Make seed clients lines) script sessions base store history = summary_of seed clients lines sessions base store history
+text_of (action.Make seed clients lines) script sessions base store history = summary_of seed clients lines sessions history
 text_of other script sessions base store history = transcript_of script sessions base store history

@@ -81,12 +81,11 @@ fn summary_of(
     lines: u32,
     answers: &[Answered],
     history: &History,
-    store: &BTreeMap<Key, Value>,
 ) -> Result<Vec<u8>, AllocError>
-    ensures { IfOk result (λ text. text.items ≡ summary_of seed clients lines (replies_of answers.now) history.now.base store.now.entries history.now.entries) }
+    ensures { IfOk result (λ text. text.items ≡ summary_of seed clients lines (replies_of answers.now) history.now.entries) }
 {
     let sessions = replies_of(alloc, answers)?;
-    summary(alloc, seed, clients, lines, &sessions, history, store)
+    summary(alloc, seed, clients, lines, &sessions, history)
 }
 
 /// The text of the command, where no session broke off.
@@ -110,7 +109,7 @@ pub fn text_of(
             seed,
             clients,
             lines,
-        } => summary_of(alloc, seed, clients, lines, answers, history, store),
+        } => summary_of(alloc, seed, clients, lines, answers, history),
         Action::Run | Action::Show => transcript(alloc, parts, answers, history, store),
     }
 }
