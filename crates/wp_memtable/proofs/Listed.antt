@@ -5,12 +5,12 @@ use Rattle.std.specs.Ordering.{nat_cmp, is_eq, ordering_then, match_ordering}
 use Rattle.std.specs.declared.cmp.Ordering.{Ordering}
 use Rattle.std.specs.Str.{bytes_eq}
 use Rattle.std.specs.Cmp.{Equal-is, eq_by_cmp_equiv, nat_eq_equiv}
-use Rattle.std.specs.List.{AllByRecursion, list_any}
+use Rattle.std.specs.List.{AllByRecursion, list_all, list_any}
 use Rattle.std.specs.List.Sorted.{IsStrictlySortedBy}
 use Rattle.std.specs.Map.{lookup, keys_of, set_value}
 use Rattle.std.specs.Map.Calls.{RetainsPairs}
 use Rattle.std.specs.BTreeMap.{is_at, insert_entry}
-use Rattle.std.proofs.lemmas.Bool.{false≢true, ltb-false}
+use Rattle.std.proofs.lemmas.Bool.{false≢true, ltb-false, and_from, and_parts}
 use Rattle.std.proofs.lemmas.Cmp.{nat_list_cmp_total, tied_itself}
 use Rattle.std.proofs.lemmas.List.{append-nil, map-append, take_more}
 use Rattle.std.proofs.lemmas.List.Elements.{filter-append}
@@ -24,6 +24,7 @@ use Rattle.std.proofs.lemmas.Slice.Eq.{bytes_eq-Decides}
 use Rattle.wp_model.specs.declared.change.Change.{Change}
 use Rattle.wp_model.specs.Batch.{key_cmp, key_of, value_of, change_to}
 use Rattle.wp_model.specs.declared.version.Version.{Version}
+use Rattle.wp_model.specs.Word.{is_key}
 use Rattle.wp_model.specs.Versions.{AreInOrder, version_at}
 use Rattle.wp_model.proofs.VersionLists.{IsBefore, in_order_nil, in_order_cons, or_cond}
 use Rattle.wp_memtable.specs.KeyVersions.{Numbered, RoomyVersions, newest_cmp, AreNewestFirst}
@@ -95,11 +96,22 @@ in_order-under k (p ∷ ps) es newest below rest =
     (before_append (record { key = k; number = p.0; value = p.1 }) (under k ps) (versions_in es) (before_under k p.0 p.1 ps (sorted_head newest_cmp p.0 (keys_of ps) newest)) (before_all k p.0 p.1 es below))
     (in_order-under k ps es (sorted_tail newest_cmp p.0 (keys_of ps) newest) below rest)
 
+words_under : (k : List ℕ) (ps : Numbered) (rest : List Version) → is_key k ≡ true → list_all (λ v. is_key v.key) rest ≡ true → list_all (λ v. is_key v.key) (under k ps ++ rest) ≡ true
+words_under k [] rest word all = all
+words_under k (p ∷ ps) rest word all = and_from (is_key k) (list_all (λ v. is_key v.key) (under k ps ++ rest)) word (words_under k ps rest word all)
+
+-- the keys of all versions are in their range
+pub words_in : (es : Places) → list_all is_key (keys_of es) ≡ true → list_all (λ v. is_key v.key) (versions_in es) ≡ true
+words_in [] all = refl
+words_in (e ∷ es) all =
+    let parts = and_parts (is_key e.0) (list_all is_key (keys_of es)) all in
+    words_under e.0 e.1.versions (versions_in es) parts.0 (words_in es parts.1)
+
 pub in_order-versions_in : (es : Places) → AreWellOrdered es → AreInOrder (versions_in es)
 in_order-versions_in [] ordered = in_order_nil
 in_order-versions_in (e ∷ es) ordered =
     in_order-under e.0 e.1.versions es ordered.newest_first.0 (sorted_head key_cmp e.0 (keys_of es) ordered.keys)
-    (in_order-versions_in es (record { keys = sorted_tail key_cmp e.0 (keys_of es) ordered.keys; newest_first = ordered.newest_first.1 }))
+    (in_order-versions_in es (record { keys = sorted_tail key_cmp e.0 (keys_of es) ordered.keys; words = (and_parts (is_key e.0) (list_all is_key (keys_of es)) ordered.words).1; newest_first = ordered.newest_first.1 }))
 
 -- ---- the versions of one key
 
@@ -183,6 +195,15 @@ newest-inserted (e ∷ es) k w all newest = by (key_cmp k e.0) (newest-inserted 
     by Equal rest = (newest, all.1)
     by Greater rest = (all.0, rest)
 
+words-inserted : (es : Places) (k : List ℕ) (w : RoomyVersions) → is_key k ≡ true → list_all is_key (keys_of es) ≡ true → list_all is_key (keys_of (insert_entry key_cmp es k w)) ≡ true
+words-inserted [] k w word all = and_from (is_key k) true word refl
+words-inserted (e ∷ es) k w word all = by (key_cmp k e.0) (words-inserted es k w word (and_parts (is_key e.0) (list_all is_key (keys_of es)) all).1)
+  where
+    by : (o : Ordering) → list_all is_key (keys_of (insert_entry key_cmp es k w)) ≡ true → list_all is_key (keys_of (match_ordering o ((k, w) ∷ e ∷ es) ((e.0, w) ∷ es) (e ∷ insert_entry key_cmp es k w))) ≡ true
+    by Less rest = and_from (is_key k) (list_all is_key (keys_of (e ∷ es))) word all
+    by Equal rest = all
+    by Greater rest = and_from (is_key e.0) (list_all is_key (keys_of (insert_entry key_cmp es k w))) (and_parts (is_key e.0) (list_all is_key (keys_of es)) all).0 rest
+
 -- ---- the same of places that equal those
 
 pub changed_same : (k : List ℕ) (es ns : Places) (r w : RoomyVersions) → ns ≡ set_value (is_at (key_cmp k)) es w → Some r ≡ lookup (is_at (key_cmp k)) es → w.versions ≡ r.versions → versions_in ns ≡ versions_in es
@@ -192,13 +213,13 @@ pub changed_length : (k : List ℕ) (es ns : Places) (r w : RoomyVersions) (n : 
 changed_length k es ns r w n is found longer = ap (λ ms. length (versions_in ms)) is ∙ length-changed (is_at (key_cmp k)) es r w n (sym found) longer
 
 pub changed_ordered : (k : List ℕ) (es ns : Places) (w : RoomyVersions) → ns ≡ set_value (is_at (key_cmp k)) es w → AreWellOrdered es → keys_of ns ≡ keys_of es → AreNewestFirst w.versions → AreWellOrdered ns
-changed_ordered k es ns w is ordered same newest = record { keys = subst (IsStrictlySortedBy key_cmp) (sym same) ordered.keys; newest_first = subst AllNewestFirst (sym is) (newest-changed (is_at (key_cmp k)) es w ordered.newest_first newest) }
+changed_ordered k es ns w is ordered same newest = record { keys = subst (IsStrictlySortedBy key_cmp) (sym same) ordered.keys; words = ap (list_all is_key) same ∙ ordered.words; newest_first = subst AllNewestFirst (sym is) (newest-changed (is_at (key_cmp k)) es w ordered.newest_first newest) }
 
 pub inserted_same : (es ns : Places) (k : List ℕ) (w : RoomyVersions) → ns ≡ insert_entry key_cmp es k w → None ≡ lookup (is_at (key_cmp k)) es → w.versions ≡ [] → versions_in ns ≡ versions_in es
 inserted_same es ns k w is found none = ap versions_in is ∙ versions_of-none_more es k w (sym found) none
 
-pub inserted_ordered : (es ns : Places) (k : List ℕ) (w : RoomyVersions) → ns ≡ insert_entry key_cmp es k w → AreWellOrdered es → IsStrictlySortedBy key_cmp (keys_of ns) → AreNewestFirst w.versions → AreWellOrdered ns
-inserted_ordered es ns k w is ordered keys newest = record { keys = keys; newest_first = subst AllNewestFirst (sym is) (newest-inserted es k w ordered.newest_first newest) }
+pub inserted_ordered : (es ns : Places) (k : List ℕ) (w : RoomyVersions) → ns ≡ insert_entry key_cmp es k w → is_key k ≡ true → AreWellOrdered es → IsStrictlySortedBy key_cmp (keys_of ns) → AreNewestFirst w.versions → AreWellOrdered ns
+inserted_ordered es ns k w is word ordered keys newest = record { keys = keys; words = ap (λ ms. list_all is_key (keys_of ms)) is ∙ words-inserted es k w word ordered.words; newest_first = subst AllNewestFirst (sym is) (newest-inserted es k w ordered.newest_first newest) }
 
 -- what is under each key and number, where one version was put under k and n, which had these before
 pub version_at-put : (k : List ℕ) (n : ℕ) (v : Option (List ℕ)) (es ns : Places) (had : Numbered) (w : RoomyVersions) → AreWellOrdered es → AreWellOrdered ns → versions_at (lookup (is_at (key_cmp k)) es) ≡ had → ((m : ℕ) → lookup (nat_eq m) w.versions ≡ cond (n == m) (Some v) (lookup (nat_eq m) had)) → ((q : List ℕ) → lookup (is_at (key_cmp q)) ns ≡ cond (is_at (key_cmp k) q) (Some w) (lookup (is_at (key_cmp q)) es)) → (key : List ℕ) (m : ℕ) → version_at (versions_in ns) key m ≡ cond (bytes_eq k key && (m == n)) (Some v) (version_at (versions_in es) key m)
@@ -252,8 +273,8 @@ module _ (es ns ms : Places) (k : List ℕ) (w : RoomyVersions) (here : ns ≡ m
   pub put_length : (n : ℕ) → length w.versions ≡ length (versions_at (lookup (is_at (key_cmp k)) es)) + n → length (versions_in ns) ≡ length (versions_in es) + n
   put_length n longer = ap (λ xs. length (versions_in xs)) (here ∙ is) ∙ length-put es k w n ordered.keys longer
 
-  pub put_ordered : IsStrictlySortedBy key_cmp (keys_of ms) → AreNewestFirst w.versions → AreWellOrdered ns
-  put_ordered keys newest = subst AreWellOrdered (sym here) (inserted_ordered es ms k w is ordered keys newest)
+  pub put_ordered : is_key k ≡ true → IsStrictlySortedBy key_cmp (keys_of ms) → AreNewestFirst w.versions → AreWellOrdered ns
+  put_ordered word keys newest = subst AreWellOrdered (sym here) (inserted_ordered es ms k w is word ordered keys newest)
 
   pub put_found : ((q : List ℕ) → lookup (is_at (key_cmp q)) ms ≡ cond (is_at (key_cmp k) q) (Some w) (lookup (is_at (key_cmp q)) es)) → (q : List ℕ) → lookup (is_at (key_cmp q)) ns ≡ cond (is_at (key_cmp k) q) (Some w) (lookup (is_at (key_cmp q)) es)
   put_found updates q = ap (λ (xs : Places). lookup (is_at (key_cmp q)) xs) here ∙ updates q
@@ -349,6 +370,7 @@ module _ (stays : ℕ → Bool) where
 
   pub record Retained (es kept : Places) : Type 0 where
     pub versions : versions_in kept ≡ staying (versions_in es)
+    pub words : list_all is_key (keys_of es) ≡ true → list_all is_key (keys_of kept) ≡ true
     pub newest_first : AllNewestFirst kept
 
   none_left : (ps : Numbered) → false ≡ nat_lt 0 (length ps) → ps ≡ []
@@ -365,13 +387,13 @@ module _ (stays : ℕ → Bool) where
       split = filter-append (λ v. stays v.number) (under e.0 e.1.versions) (versions_in es)
 
       by : (b : Bool) → b ≡ nat_lt 0 (length w.versions) → kept ≡ cond b ((e.0, w) ∷ rest) rest → Retained (e ∷ es) kept
-      by true some h = record { versions = ap versions_in h ∙ (λ i. front i ++ after.versions i) ∙ sym split; newest_first = subst AllNewestFirst (sym h) (call.1, after.newest_first) }
+      by true some h = record { versions = ap versions_in h ∙ (λ i. front i ++ after.versions i) ∙ sym split; words = λ all. (let k = and_parts (is_key e.0) (list_all is_key (keys_of es)) all in ap (λ ms. list_all is_key (keys_of ms)) h ∙ and_from (is_key e.0) (list_all is_key (keys_of rest)) k.0 (after.words k.1)); newest_first = subst AllNewestFirst (sym h) (call.1, after.newest_first) }
       by false none h =
           let gone : staying (under e.0 e.1.versions) ≡ [] = sym front ∙ ap (under e.0) (none_left w.versions none) in
-          record { versions = ap versions_in h ∙ after.versions ∙ sym (split ∙ ap (λ (vs : List Version). vs ++ staying (versions_in es)) gone); newest_first = subst AllNewestFirst (sym h) after.newest_first }
+          record { versions = ap versions_in h ∙ after.versions ∙ sym (split ∙ ap (λ (vs : List Version). vs ++ staying (versions_in es)) gone); words = λ all. ap (λ ms. list_all is_key (keys_of ms)) h ∙ after.words (and_parts (is_key e.0) (list_all is_key (keys_of es)) all).1; newest_first = subst AllNewestFirst (sym h) after.newest_first }
 
   pub retained : {F : Type 0} (T : F → List ℕ → RoomyVersions → Bool → RoomyVersions → F → Type 0) (f : F) → ((k : List ℕ) (v : RoomyVersions) (b : Bool) (w : RoomyVersions) (f' : F) → T f k v b w f' → (f' ≡ f) × Removes v b w) → (es kept : Places) → RetainsPairs T f es kept → Retained es kept
-  retained T f calls [] kept h = record { versions = ap versions_in h; newest_first = subst AllNewestFirst (sym h) tt }
+  retained T f calls [] kept h = record { versions = ap versions_in h; words = λ all. ap (λ ms. list_all is_key (keys_of ms)) h; newest_first = subst AllNewestFirst (sym h) tt }
   retained T f calls (e ∷ es) kept (b, w, f', rest, t, others, is) =
       let call = calls e.0 e.1 b w f' t in
       retained_cons e es rest kept b w call.1 (retained T f calls es rest (subst (λ g. RetainsPairs T g es rest) call.0 others)) is

@@ -2,12 +2,14 @@
 use Rattle.std.proofs.Common.{◌≡◌, ℕ, Bool, true, false, ◌&&◌, cond, List, [], ◌∷◌, ◌++◌, filter, Option, Some, refl, sym, ap, ◌∙◌}
 use Rattle.std.specs.declared.ops.Bound.TheVariants.{Unbounded}
 use Rattle.std.specs.BTreeMap.Range.{range_contains, entries_between}
-use Rattle.std.specs.List.{find, list_any}
+use Rattle.std.specs.List.{find, list_all, list_any}
 use Rattle.std.specs.Option.{option_map}
 use Rattle.std.specs.Ordering.{is_lt, is_le}
+use Rattle.std.proofs.lemmas.Bool.{and_from, and_parts}
 use Rattle.std.proofs.lemmas.List.Elements.{filter-append}
 use Rattle.wp_model.specs.Batch.{key_cmp}
 use Rattle.wp_model.specs.Rows.{is_from, next_key}
+use Rattle.wp_model.specs.Word.{is_key}
 use Rattle.wp_model.specs.declared.version.Version.{Version}
 use Rattle.wp_memtable.specs.declared.bounds.Bounds.{Bounds}
 use Rattle.wp_memtable.specs.Bounds.{is_between, between}
@@ -60,3 +62,16 @@ module _ (above : Bool) (key : List ℕ) (b : Bounds) where
   -- what is looked through from there on
   pub next_from : (rest es : Places) → rest ≡ entries_between key_cmp (start_at above key) Unbounded es → first_with b rest ≡ next_key above key (between b (versions_in es))
   next_from rest es is = ap (first_with b) (is ∙ starts_at es) ∙ sym (next_in es)
+
+-- ---- keys in their range
+
+pub kept_words : (p : Version → Bool) (vs : List Version) → list_all (λ v. is_key v.key) vs ≡ true → list_all (λ v. is_key v.key) (filter p vs) ≡ true
+kept_words p [] all = refl
+kept_words p (v ∷ vs) all = by (p v) (kept_words p vs parts.1)
+  where
+    parts : (is_key v.key ≡ true) × (list_all (λ w. is_key w.key) vs ≡ true)
+    parts = and_parts (is_key v.key) (list_all (λ w. is_key w.key) vs) all
+
+    by : (b : Bool) → list_all (λ w. is_key w.key) (filter p vs) ≡ true → list_all (λ w. is_key w.key) (cond b (v ∷ filter p vs) (filter p vs)) ≡ true
+    by true rest = and_from (is_key v.key) (list_all (λ w. is_key w.key) (filter p vs)) parts.0 rest
+    by false rest = rest

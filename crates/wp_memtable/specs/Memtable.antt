@@ -2,6 +2,7 @@
 use Rattle.std.specs.Prelude.{◌≡◌, ℕ, Bool, true, false, ◌==◌, nat_lt, List, [], ◌∷◌, ◌++◌, is_some, if◌then◌else◌, map, filter}
 use Rattle.std.specs.Option.{option_or, option_map_or}
 use Rattle.std.specs.Str.{bytes_eq}
+use Rattle.std.specs.List.{list_all}
 use Rattle.std.specs.List.Sorted.{IsStrictlySortedBy}
 use Rattle.std.specs.Map.{lookup, keys_of}
 use Rattle.std.specs.BTreeMap.{is_at}
@@ -9,6 +10,7 @@ use Rattle.std.specs.declared.ops.Bound.{Bound}
 use Rattle.std.specs.declared.ops.Bound.TheVariants.{Included, Excluded}
 use Rattle.wp_model.specs.declared.change.Change.{Change}
 use Rattle.wp_model.specs.Batch.{key_cmp, change_to}
+use Rattle.wp_model.specs.Word.{is_key}
 use Rattle.wp_model.specs.declared.version.Version.{Version}
 use Rattle.wp_model.specs.Versions.{AreInOrder, version_at}
 use Rattle.wp_memtable.specs.KeyVersions.{Numbered, RoomyVersions, AreNewestFirst, has_place}
@@ -49,9 +51,10 @@ abbrev pub AllNewestFirst : Places → Type 0
 AllNewestFirst [] = Unit {0}
 AllNewestFirst (e ∷ es) = AreNewestFirst e.1.versions × AllNewestFirst es
 
--- the keys ascend, and each has its versions newest first
+-- the keys ascend, they are in their range, and each has its versions newest first
 pub record AreWellOrdered (places : Places) : Type 0 where
   pub keys : IsStrictlySortedBy key_cmp (keys_of places)
+  pub words : list_all is_key (keys_of places) ≡ true
   pub newest_first : AllNewestFirst places
 
 -- where the keys begin that are above the key, or, where that is not asked, not below it

@@ -1,7 +1,9 @@
-ghost use Rattle.std.specs.Prelude.{◌≡◌, ◌==◌, length, IfOk};
+ghost use Rattle.std.specs.Prelude.{◌≡◌, ◌==◌, true, length, IfOk};
 ghost use Rattle.std.specs.Arc.{arc_value};
+ghost use Rattle.std.specs.List.{list_all};
 ghost use Rattle.wp_model.specs.Rows.{next_key};
 ghost use Rattle.wp_model.specs.Versions.{AreInOrder};
+ghost use Rattle.wp_model.specs.Word.{is_key};
 ghost use Rattle.wp_memtable.specs.Memtable.{above, below, numbered_of};
 
 use crate::bounds::Bounds;
@@ -62,6 +64,7 @@ impl FrozenPart {
     /// The least key of a version that is above `key`, or, where `above` is false, not below it.
     pub fn next_key(&self, key: &Key, above: bool) -> Result<Option<Key>, AllocError>
         ensures found { IfOk result (λ found. found ≡ next_key above key.now self.now) }
+        ensures in_range { list_all (λ v. is_key v.key) self.now ≡ true }
         ensures in_order { AreInOrder self.now }
     {
         self.part.next_between(key, above, self.bounds)

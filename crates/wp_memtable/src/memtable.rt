@@ -1,9 +1,10 @@
-ghost use Rattle.std.specs.Prelude.{◌≡◌, ◌++◌, ◌<◌, ◌^◌, [], ◌∷◌, length, IfOk, OnOk, OnErr, MatchResult};
-ghost use Rattle.std.specs.List.{list_any};
+ghost use Rattle.std.specs.Prelude.{◌≡◌, ◌++◌, ◌<◌, ◌^◌, true, [], ◌∷◌, length, IfOk, OnOk, OnErr, MatchResult};
+ghost use Rattle.std.specs.List.{list_all, list_any};
 ghost use Rattle.std.specs.Option.{option_copied};
 ghost use Rattle.std.specs.Range.Bound.{bound_map};
 ghost use Rattle.wp_model.specs.Rows.{next_key};
 ghost use Rattle.wp_model.specs.Versions.{AreInOrder};
+ghost use Rattle.wp_model.specs.Word.{is_key};
 ghost use Rattle.wp_memtable.specs.Bounds.{is_between, between};
 ghost use Rattle.wp_memtable.specs.Memtable.{HasChanges, above, below, numbered_of, start_at, under, versions_in};
 
@@ -196,6 +197,7 @@ impl Memtable {
     /// then from key to key.
     pub fn next_key(&self, key: &Key, above: bool) -> Result<Option<Key>, AllocError>
         ensures found { IfOk result (λ found. found ≡ next_key above key.now self.now) }
+        ensures in_range { list_all (λ v. is_key v.key) self.now ≡ true }
         ensures in_order { AreInOrder self.now }
     {
         self.next_between(key, above, Bounds::none())
@@ -209,6 +211,7 @@ impl Memtable {
         bounds: Bounds,
     ) -> Result<Option<Key>, AllocError>
         ensures found { IfOk result (λ found. found ≡ next_key above key.now (between bounds self.now)) }
+        ensures in_range { list_all (λ v. is_key v.key) self.now ≡ true }
         ensures in_order { AreInOrder self.now }
     {
         match first_between(&self.places, key, above, bounds) {

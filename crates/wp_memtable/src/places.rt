@@ -37,6 +37,7 @@ fn reserve(
     if let Some(versions) = places.get_mut(key) {
         return versions.reserve(alloc);
     }
+    let _ = key.bytes();
     places.insert(key.copy(alloc)?, KeyVersions::new())?;
     Ok(())
 }
@@ -110,6 +111,7 @@ fn put_one(
     ensures err { OnErr result (versions_in places.new.entries ≡ versions_in places.old.entries) }
     ensures well_ordered { AreWellOrdered places.new.entries }
 {
+    let _ = key.bytes();
     let value = copy_value(value, alloc)?;
     let versions = places
         .entry(key.copy(alloc)?)?

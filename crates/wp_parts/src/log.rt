@@ -130,8 +130,8 @@ impl<D: Disk> Log<D> {
         self.history.base()
     }
 
-    /// The greatest number above n of an entry of the history that changes the key, if there is one. From the first time on that it is
-    /// asked, it goes through entries only down from the number that was the last then.
+    /// The greatest number above n of an entry of the history that changes the key, if there is one. It goes through entries only
+    /// down from the number that was the last when it was first asked, or when memory was wanting for what it knows since then.
     pub fn changed_after(&mut self, key: &Key, n: Seq) -> Option<Seq>
         requires { self.old.first.segment.base ≤ n }
         ensures same { self.new ≡ self.old }
@@ -211,7 +211,8 @@ impl<D: Disk> Log<D> {
         }
     }
 
-    /// Puts the first of the pending entries into the history. It takes no memory.
+    /// Puts the first of the pending entries into the history. It takes no memory but for the last changes of keys, which are let go
+    /// where it is wanting.
     pub fn publish(&mut self)
         requires some { self.old.state.pending ≢ [] }
         requires logged { self.old.state.logged ≡ true }

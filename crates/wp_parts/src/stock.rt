@@ -3,10 +3,11 @@ ghost use Rattle.std.specs.Prelude.{◌≡◌, ◌≤◌, ◌<◌, ℕ, nat_le, 
 ghost use Rattle.std.specs.Arc.{arc_value};
 ghost use Rattle.wp_model.specs.declared.entry.Entry.{Entry};
 ghost use Rattle.wp_model.specs.Legal.{changes_in};
+ghost use Rattle.wp_model.specs.Rows.{next_key};
 ghost use Rattle.wp_model.specs.Versions.{version_at};
 ghost use Rattle.wp_memtable.specs.Memtable.{HasChanges};
 ghost use Rattle.wp_merge.specs.Merge.{joined, sorted_of};
-ghost use Rattle.wp_store.specs.Store.{newest_of};
+ghost use Rattle.wp_store.specs.Store.{newest_of, AreWords};
 ghost use Rattle.wp_core.specs.Entries.{HasVersionsAt};
 ghost use Rattle.wp_core.specs.States.{all_in};
 ghost use Rattle.wp_parts.specs.Stock.{store_state, HasNoneAt};
@@ -73,6 +74,14 @@ impl Stock {
         ensures { IfOk result (λ found. found ≡ newest_of n key.now (sorted_of (all_in (store_state self.now)))) }
     {
         self.store.collect(key, n)
+    }
+
+    /// The least key of a version that is above `key`, or, where `above` is false, not below it, in memory and in tables.
+    pub fn next_key(&self, key: &Key, above: bool) -> Result<Option<Key>, AllocError>
+        ensures found { IfOk result (λ found. found ≡ next_key above key.now (sorted_of (all_in (store_state self.now)))) }
+        ensures in_range { OnOk result (AreWords (sorted_of (all_in (store_state self.now)))) }
+    {
+        self.store.next_key(key, above)
     }
 
     /// Whether no version is in memory.

@@ -6,6 +6,7 @@ pub mod Seated
 pub mod Taking
 pub mod Versions
 pub mod Shows
+pub mod Next
 pub mod Rounds
 pub mod HeldKeys
 pub mod Counts

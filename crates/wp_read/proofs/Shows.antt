@@ -1,23 +1,26 @@
 -- The newest versions of a key that lie behind the store turn show its value at a snapshot of the seat's.
-use Rattle.std.proofs.Common.{◌≡◌, ℕ, ◌+◌, ◌<◌, ◌≤◌, ◌==◌, true, List, ◌∷◌, ◌++◌, length, take, drop, min, refl, sym, subst, ap, ◌∙◌, Option, Some, None, append_assoc, length-append, arith}
+use Rattle.std.proofs.Common.{◌≡◌, inl, inr, ⊎_elim, ℕ, ◌+◌, ◌<◌, ◌≤◌, ◌==◌, true, List, [], ◌∷◌, ◌++◌, length, take, drop, min, refl, sym, subst, ap, ◌∙◌, Option, Some, None, append_assoc, length-append, arith}
 use Rattle.std.specs.Prelude.{Result, Ok, Err, IfOk}
-use Rattle.std.proofs.lemmas.Bool.{or_right}
+use Rattle.std.specs.Option.{option_map}
+use Rattle.std.proofs.lemmas.Bool.{cases_lt, or_right}
 use Rattle.std.proofs.lemmas.List.{take-append-drop, take-append-le, take_all, length-take}
 use Rattle.wp_model.specs.declared.entry.Entry.{Entry}
 use Rattle.wp_model.specs.declared.entry.Entry.TheVariants.{Write, Prepare, Commit, Undo, Close}
 use Rattle.wp_model.specs.declared.version.Version.{Version}
-use Rattle.wp_model.specs.Covered.{GivesStore, is_among}
+use Rattle.wp_model.specs.Covered.{GivesNewest, GivesNone, GivesStore, is_among}
 use Rattle.wp_model.specs.Decision.{decision_of, IsCommittedAt, version_in, entry_version}
 use Rattle.wp_model.specs.History.{entry_at, newest, value_at}
 use Rattle.wp_model.specs.Legal.{IsLegal}
 use Rattle.wp_model.specs.Versions.{version_at}
 use Rattle.wp_model.proofs.Entries.{entry_at_old}
+use Rattle.wp_model.proofs.Tests.{some_none, none_some}
 use Rattle.wp_core.specs.Lists.{IsIn}
 use Rattle.wp_core.specs.Reading.{Registration}
-use Rattle.wp_core.specs.Sound.Snapshots.{has_versions, has_versions_at}
+use Rattle.wp_core.specs.Sound.Snapshots.{has_versions}
 use Rattle.wp_core.specs.States.{StoreState, live_numbers, up_to, all_in}
 use Rattle.wp_core.specs.World.{World}
 use Rattle.wp_core.proofs.HistoryLaws.{decided_late, decision_stays}
+use Rattle.wp_core.proofs.PublishesVersions.{up_to_within, up_to_past}
 use Rattle.wp_core.proofs.Registered.{registered_live}
 use Rattle.wp_core.proofs.SnapshotsStep.{among_live}
 use Rattle.wp_merge.specs.Merge.{sorted_of}
@@ -27,7 +30,8 @@ use Rattle.wp_rule.proofs.Knows.{at_sound, seen_is}
 use Rattle.wp_store.specs.Store.{of_key, newest_of}
 use Rattle.wp_parts.specs.Stock.{StockState, store_state}
 use Rattle.wp_shared.specs.Seats.{SharedState, SeatState, Stands, place_at}
-use Rattle.wp_read.specs.Values.{ShowsValue}
+use Rattle.wp_read.specs.Rows.{IsRowOf}
+use Rattle.wp_read.specs.Values.{AreOfKey, AreVersions, NoneCommitted, ShowsValue}
 use Rattle.wp_read.proofs.Readings.{right_before, registered_low}
 use Rattle.wp_read.proofs.Versions.{Descends, in_front, descends, at_of_key, in_store, first_shows, none_shows}
 
@@ -98,19 +102,19 @@ module _ {D : Type 0} (z : SharedState D) (s : SeatState) (w : World) (key : Lis
   in_all : (v : Version) → IsIn v (take most of_it) → IsIn v of_it
   in_all v there = subst (IsIn v) (sym cut) (in_front v (take most of_it) (drop most of_it) there)
 
-  version_seen : (v : Version) → IsIn v (take most of_it) → v.number ≤ r.number → has_versions_at seen v.number ≡ true
+  version_seen : (v : Version) → IsIn v (take most of_it) → v.number ≤ r.number → entry_version seen v.number key ≡ Some v.value
   version_seen v there le =
       let stored = in_store whole key r.number all of_it each in_turn low gives v (in_all v there) le in
       let is : entry_version whole v.number key ≡ Some v.value = (at_sound (place_at z s.by) s.knows w k).versions.covered.part key v.number v.value stored in
       let within : v.number ≤ length seen = (let m = low_seen in omega arith) in
-      ap has_versions (sym (ap (λ (x : List Entry). entry_at x v.number) grown ∙ entry_at_old seen rest v.number within)) ∙ versions_of (entry_at whole v.number) key v.value is
+      ap (λ (o : Option Entry). version_in o key) (sym (ap (λ (x : List Entry). entry_at x v.number) grown ∙ entry_at_old seen rest v.number within)) ∙ is
 
   all_taken : length (take most of_it) < most → take most of_it ≡ of_it
   all_taken short = let l : length (take most of_it) ≡ min most (length of_it) = length-take most of_it in take_all most of_it (omega arith)
 
   pub shows_value : ShowsValue seen key r.number most (take most of_it)
   shows_value = record {
-    are_versions = version_seen;
+    are = version_seen;
     none_later = λ p past c. (let le = below p (committed_on p c) in absurd (omega arith));
     first = λ front back v are none c.
         first_shows whole key r.number all of_it each in_turn low gives front (back ++ drop most of_it) v (cut ∙ (ap (λ x. x ++ drop most of_it) are ∙ append_assoc front (v ∷ back) (drop most of_it)))
@@ -118,6 +122,45 @@ module _ {D : Type 0} (z : SharedState D) (s : SeatState) (w : World) (key : Lis
     none = λ short none.
         sym same_value ∙ none_shows whole key r.number all of_it each in_turn low gives (λ u there d. none u (subst (IsIn u) (sym (all_taken short)) there) (committed_back u.number d));
   }
+
+  -- who has a value has a version
+  pub has_version : (value : List ℕ) → value_at seen key r.number ≡ Some value → (p : ℕ) × (x : Option (List ℕ)) × (version_at all key p ≡ Some x)
+  has_version value is = ⊎_elim
+      (λ (g : GivesNewest (up_to (length whole) all) whole key r.number). (g.number, g.value, there g.number g.value g.there))
+      (λ (g : GivesNone (up_to (length whole) all) whole key r.number). absurd (some_none value (sym (same_value ∙ is) ∙ g.missing))) gives
+    where
+      there : (p : ℕ) (x : Option (List ℕ)) → version_at (up_to (length whole) all) key p ≡ Some x → version_at all key p ≡ Some x
+      there p x e = ⊎_elim
+          (λ (past : length whole < p). absurd (none_some (version_at (up_to (length whole) all) key p) x (up_to_past (length whole) all key p past) e))
+          (λ (within : p ≤ length whole). sym (up_to_within (length whole) all key p within) ∙ e) (cases_lt (length whole) p)
+
+pub have_versions : (history : List Entry) (key : List ℕ) (n : ℕ) (found : List Version) → AreOfKey history key n found → AreVersions history n found
+have_versions history key n found are v there le = versions_of (entry_at history v.number) key v.value (are v there le)
+
+-- the first of the versions that is committed has the key's row, or the key has none
+pub row_shown : (history : List Entry) (key : List ℕ) (n most : ℕ) (found front back : List Version) (v : Version) → ShowsValue history key n most found → found ≡ front ++ v ∷ back → NoneCommitted history n front → IsCommittedAt history v.number n
+    → IsRowOf history key n (option_map (λ value. (v.number, value)) v.value)
+row_shown history key n most found front back v shows are none committed = by v.value refl
+  where
+    in_middle : (xs : List Version) → IsIn v (xs ++ v ∷ back)
+    in_middle [] = inl refl
+    in_middle (x ∷ xs) = inr (in_middle xs)
+
+    low : v.number ≤ n
+    low = ⊎_elim (λ (past : n < v.number). absurd (shows.none_later v.number past committed)) (λ (le : v.number ≤ n). le) (cases_lt n v.number)
+
+    by : (o : Option (List ℕ)) → v.value ≡ o → IsRowOf history key n (option_map (λ value. (v.number, value)) o)
+    by None e = sym (shows.first front back v are none committed) ∙ e
+    by (Some value) e = record {
+      committed = committed;
+      version = shows.are v (subst (IsIn v) (sym are) (in_middle front)) low ∙ ap (λ (x : Option (List ℕ)). Some x) e;
+      stored = sym (shows.first front back v are none committed) ∙ e;
+    }
+
+-- the value of a row is what the store has there
+pub row_value : (history : List Entry) (key : List ℕ) (n : ℕ) (row : Option (ℕ × List ℕ)) → IsRowOf history key n row → option_map (λ row. row.1) row ≡ value_at history key n
+row_value history key n None is = sym is
+row_value history key n (Some row) is = sym is.stored
 
 -- what was copied under the store turn shows it
 pub copies_show : {D E : Type 0} (z : SharedState D) (s : SeatState) (stock : StockState) (key : List ℕ) (most : ℕ) (result : Result (List Version) E) → (w : World) × Stands z s w × (w.store ≡ store_state stock) → IfOk result (λ found. found ≡ newest_of most key (sorted_of (all_in (store_state stock))))

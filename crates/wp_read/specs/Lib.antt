@@ -4,3 +4,4 @@ pub mod Registers
 pub mod Values
 pub mod AtOnce
 pub mod Fresh
+pub mod Rows

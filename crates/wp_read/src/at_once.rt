@@ -18,10 +18,10 @@ use crate::answers::Free;
 use crate::deciding::decide_free;
 use crate::registration::{NOTHING_KNOWN, Snapshot};
 use crate::steps::{register, unregister_last};
-use crate::values::{FIRST_COPIES, copy_newest, take_value};
+use crate::values::{FIRST_COPIES, copy_newest, take_version};
 use std::alloc::AllocError;
 use std::sync::Wait;
-use wp_model::{Key, Seq, Value};
+use wp_model::{Key, Seq, Value, Version};
 use wp_outside::Disk;
 use wp_shared::{Seat, Shared};
 use wp_snaps::Snaps;
@@ -53,7 +53,10 @@ fn newest_value<D: Disk + Drop, R: Wait>(
     }
     let newest = found.as_slice()[0].number;
     match decide_free(store, seat, newest, snapshot) {
-        Free::Decided(true) => Ok(Some(take_value(found, 0))),
+        Free::Decided(true) => {
+            let Version { value, .. } = take_version(found, 0);
+            Ok(Some(value))
+        }
         Free::Decided(false) | Free::Prepared(_) | Free::Snapshots(_) => Ok(None),
     }
 }

@@ -12,6 +12,9 @@
 //! `get` copies the newest few versions of a key under the store turn, and decides them without it, the newest first. Which of
 //! them the store still has may change between two rounds of copies; what was decided of a version does not.
 //!
+//! `next_row` goes from key to key at a snapshot: it finds the next one under the store turn, with its newest version, and decides it as
+//! `get` does.
+//!
 //! `begin_read` reads a key as it is now under the snapshots turn, without a snapshot that others see, where loads that need no turn
 //! show its newest version. Else it gives a snapshot for a `get`. `get_now` does both.
 //!
@@ -32,6 +35,7 @@ mod pinning;
 mod priors;
 mod registering;
 mod registration;
+mod rows;
 mod steps;
 mod values;
 
@@ -43,4 +47,5 @@ pub use pinning::pin_all;
 pub use priors::prior;
 pub use registering::{brief_snapshot, release, snapshot};
 pub use registration::{Pinned, Snapshot};
+pub use rows::{KeyRow, next_row};
 pub use values::get;

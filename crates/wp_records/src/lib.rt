@@ -4,7 +4,7 @@
 //! write turn, and does in this order: it makes the record pending, with all memory that the log and the history need; clears the
 //! words of the commit cache for the pairs that its entries decide, or raises the bound to the number of one that fits no word; puts
 //! the versions of its changes into memory under the store turn, and the number of a Prepare into the prepared heap under the prepared
-//! turn. Then it appends the record to the log, and takes no memory from there on: for each entry in turn it keeps the pair in its
+//! turn. Then it appends the record to the log, and no want of memory refuses it from there on: for each entry in turn it keeps the pair in its
 //! way, in its word or among the delayed commits, and publishes the entry. Where memory is wanting before the log call, or that
 //! fails, it takes back what it did, in the opposite order; after a failed log call the log is closed for good. While the log call
 //! runs the caller holds no turn but the write turn, as the log's `append` asks.

@@ -73,7 +73,7 @@ fn append<D: Disk + Drop, R: Wait>(
     Ok(())
 }
 
-// ---- behind it: this takes no memory
+// ---- behind it: no want of memory refuses this
 
 /// Keeps the pair of the first pending entry, which is logged, in its way, and puts that entry into the history.
 fn publish_next<D: Disk + Drop, R: Wait>(

@@ -1,10 +1,13 @@
 -- The next key of several lists of versions is that of the lists merged.
 use Rattle.std.proofs.Common.{◌≡◌, ◌⊎◌, inl, inr, ℕ, Bool, true, false, true≢false, cond, Less, List, [], ◌∷◌, ◌++◌, Option, Some, None, refl, sym, ap, ◌∙◌, subst}
+use Rattle.std.specs.List.{AllByRecursion, list_all}
 use Rattle.std.specs.Option.{option_or}
 use Rattle.std.specs.Ordering.{is_lt, nat_cmp, ordering_then}
+use Rattle.std.proofs.lemmas.Bool.{and_from, and_parts}
 use Rattle.std.proofs.lemmas.Cmp.{nat_list_cmp_total}
 use Rattle.wp_model.specs.Batch.{key_cmp}
 use Rattle.wp_model.specs.Rows.{is_from, next_key}
+use Rattle.wp_model.specs.Word.{is_key}
 use Rattle.wp_model.specs.declared.version.Version.{Version}
 use Rattle.wp_model.specs.Versions.{AreInOrder, version_at, version_cmp}
 use Rattle.wp_model.proofs.BatchLemmas.{less_from_test}
@@ -13,7 +16,8 @@ use Rattle.wp_model.proofs.VersionLists.{IsBefore, in_order_parts}
 use Rattle.wp_merge.specs.Merge.{AreMerged, first_at}
 use Rattle.wp_merge.proofs.Merged.{is_here, place_of, missing, before_more}
 use Rattle.wp_merge.proofs.Sorted.{own_place, own_value}
-use Rattle.wp_store.specs.Store.{least_key, least_next}
+use Rattle.wp_table.specs.Table.{has_words, is_stored}
+use Rattle.wp_store.specs.Store.{least_key, least_next, AreWords}
 use Rattle.wp_store.proofs.OneMerge.{AreAllInOrder}
 
 -- the key has a version there
@@ -37,6 +41,25 @@ none_is_some a e = absurd cc
 
 value_none : (a : Option (List ℕ)) → None ≡ Some a → ⊥
 value_none a e = absurd cc
+
+-- whose version is there is one
+pub has_word : (versions : List Version) (k : List ℕ) (n : ℕ) (value : Option (List ℕ)) → AreWords versions → version_at versions k n ≡ Some value → is_key k ≡ true
+has_word [] k n value words is = absurd (value_none value is)
+has_word (v ∷ vs) k n value words is = by (λ e. has_word vs k n value parts.1 e) (is_here k n v) refl
+  where
+    parts : (is_key v.key ≡ true) × AreWords vs
+    parts = and_parts (is_key v.key) (list_all (λ w. is_key w.key) vs) words
+
+    by : (version_at vs k n ≡ Some value → is_key k ≡ true) → (b : Bool) → is_here k n v ≡ b → is_key k ≡ true
+    by again true here = ap is_key (sym (place_of k n v here).0) ∙ parts.0
+    by again false here = again (sym (ap (λ (b : Bool). cond b (Some v.value) (version_at vs k n)) here) ∙ is)
+
+-- what a table has are words
+pub stored_words : (versions : List Version) → list_all has_words versions ≡ true → AreWords versions
+stored_words [] all = refl
+stored_words (v ∷ vs) all =
+    let parts = and_parts (has_words v) (list_all has_words vs) all in
+    and_from (is_key v.key) (list_all (λ w. is_key w.key) vs) (and_parts (is_key v.key) (is_stored v.value) parts.0).0 (stored_words vs parts.1)
 
 module _ (above : Bool) (key : List ℕ) where
   -- of the keys from a place on that have something it is the least
@@ -239,3 +262,21 @@ module _ (above : Bool) (key : List ℕ) where
           by : HasAny frozen k ⊎ HasAny tables k → (HasKey memory k ⊎ HasAny frozen k) ⊎ HasAny tables k
           by (inl a) = inl (inr a)
           by (inr b) = inr b
+
+  -- ---- keys in their range
+
+  any_word : (parts : List (List Version)) (k : List ℕ) → AllByRecursion AreWords parts → HasAny parts k → is_key k ≡ true
+  any_word [] k words has = absurd has
+  any_word (part ∷ parts) k words (inl has) = has_word part k has.0 has.1 words.0 has.2
+  any_word (part ∷ parts) k words (inr has) = any_word parts k words.1 has
+
+  all_words : (versions : List Version) → ((k : List ℕ) → HasKey versions k → is_key k ≡ true) → AreWords versions
+  all_words [] each = refl
+  all_words (v ∷ vs) each = and_from (is_key v.key) (list_all (λ w. is_key w.key) vs) (each v.key (has_itself v vs v.key refl)) (all_words vs (λ k has. each k (more_has v vs k has)))
+
+  pub words_merged : (parts : List (List Version)) (all : List Version) → AllByRecursion AreWords parts → AreMerged parts all → AreWords all
+  words_merged parts all words merged = all_words all (λ k has. any_word parts k words (any_first parts k has.0 has.1 (sym (merged.each k has.0) ∙ has.2)))
+
+  pub words_append : (xs ys : List (List Version)) → AllByRecursion AreWords xs → AllByRecursion AreWords ys → AllByRecursion AreWords (xs ++ ys)
+  words_append [] ys one two = two
+  words_append (x ∷ xs) ys one two = (one.0, words_append xs ys one.1 two)

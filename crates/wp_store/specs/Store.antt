@@ -1,10 +1,11 @@
 -- A store: the versions in memory, in frozen parts and in tables.
-use Rattle.std.specs.Prelude.{ℕ, Bool, ◌==◌, nat_lt, List, ◌∷◌, ◌++◌, length, take, map, filter, fold, Option, Some, None, if◌then◌else◌}
+use Rattle.std.specs.Prelude.{◌≡◌, ℕ, Bool, true, ◌==◌, nat_lt, List, ◌∷◌, ◌++◌, length, take, map, filter, fold, Option, Some, None, if◌then◌else◌}
 use Rattle.std.specs.List.{list_all}
 use Rattle.std.specs.Ordering.{is_lt}
 use Rattle.std.specs.Str.{bytes_eq}
 use Rattle.wp_model.specs.Batch.{key_cmp}
 use Rattle.wp_model.specs.Rows.{next_key}
+use Rattle.wp_model.specs.Word.{is_key}
 use Rattle.wp_model.specs.declared.version.Version.{Version}
 use Rattle.wp_memtable.specs.Memtable.{above}
 
@@ -30,6 +31,10 @@ of_key key versions = filter (λ v. bytes_eq v.key key) versions
 -- the newest n versions of the key
 abbrev pub newest_of : ℕ → List ℕ → List Version → List Version
 newest_of n key versions = take n (of_key key versions)
+
+-- their keys are in their range
+abbrev pub AreWords : List Version → Type 0
+AreWords versions = list_all (λ v. is_key v.key) versions ≡ true
 
 -- the lesser of the keys, of those that there are
 abbrev pub least_key : Option (List ℕ) → Option (List ℕ) → Option (List ℕ)

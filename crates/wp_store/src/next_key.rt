@@ -4,7 +4,7 @@ ghost use Rattle.std.specs.Arc.{arc_value};
 ghost use Rattle.std.specs.List.{AllByRecursion};
 ghost use Rattle.wp_model.specs.Versions.{AreInOrder};
 ghost use Rattle.wp_model.specs.Rows.{next_key};
-ghost use Rattle.wp_store.specs.Store.{least_key, least_next};
+ghost use Rattle.wp_store.specs.Store.{least_key, least_next, AreWords};
 
 use std::alloc::{AllocError, Global};
 use std::collections::VecDeque;
@@ -37,6 +37,7 @@ pub(crate) fn least_in_frozen(
 ) -> Result<Option<Key>, AllocError>
     ensures found { IfOk result (λ found. found ≡ least_next above key.now least frozen.now.items) }
     ensures in_order { OnOk result (AllByRecursion AreInOrder frozen.now.items) }
+    ensures in_range { OnOk result (AllByRecursion AreWords frozen.now.items) }
 {
     let mut so_far = least;
     for part in frozen {
@@ -59,6 +60,7 @@ fn next_in_table<L: Ledger>(
     requires some { 0 < blank.parts }
     ensures found { IfOk result (λ found. found ≡ next_key above key.now table.now) }
     ensures in_order { AreInOrder table.now }
+    ensures in_range { AreWords table.now }
 {
     let mut steps = Steps::<L>::new(blank);
     table.next_key(alloc, key, above, &mut steps)
@@ -74,6 +76,7 @@ pub(crate) fn least_in_tables(
 ) -> Result<Option<Key>, AllocError>
     ensures found { IfOk result (λ found. found ≡ least_next above key.now least (map arc_value tables.now.items)) }
     ensures in_order { OnOk result (AllByRecursion AreInOrder (map arc_value tables.now.items)) }
+    ensures in_range { OnOk result (AllByRecursion AreWords (map arc_value tables.now.items)) }
 {
     let mut so_far = least;
     for table in tables {

@@ -5,7 +5,7 @@ ghost use Rattle.wp_model.specs.declared.version.Version.{Version};
 ghost use Rattle.wp_model.specs.Rows.{next_key};
 ghost use Rattle.wp_memtable.specs.Memtable.{HasChanges, above, below};
 ghost use Rattle.wp_merge.specs.Merge.{AreMerged};
-ghost use Rattle.wp_store.specs.Store.{parts_of, is_flushed, parts_above, newest_of};
+ghost use Rattle.wp_store.specs.Store.{parts_of, is_flushed, parts_above, newest_of, AreWords};
 
 use crate::frozen_parts::FrozenParts;
 use crate::newest::newest_in_memory;
@@ -122,7 +122,8 @@ impl Store {
     /// The least key of a version that is above `key`, or, where `above` is false, not below it. It goes to each part for
     /// that alone.
     pub fn next_key(&self, key: &Key, above: bool) -> Result<Option<Key>, AllocError>
-        ensures { IfOk result (λ found. (all : List Version) → AreMerged (parts_of self.now) all → found ≡ next_key above key.now all) }
+        ensures found { IfOk result (λ found. (all : List Version) → AreMerged (parts_of self.now) all → found ≡ next_key above key.now all) }
+        ensures in_range { OnOk result ((all : List Version) → AreMerged (parts_of self.now) all → AreWords all) }
     {
         let in_memory = self.memory.next_key(key, above)?;
         let least = least_in_frozen(&self.frozen, key, above, in_memory)?;

@@ -9,7 +9,7 @@ pub returns-in_err-reserve-clause-well_ordered : goal.returns-in_err-reserve-cla
 returns-in_err-reserve-clause-well_ordered c =
     let w = c.reserve.new.self in
     let is = rw c.in_ok-copy.ensures at c.in_ok-places.ensures.update.1 w in
-    put_ordered c.args.places.now.entries _ (map_with_value c.in_ok-places.field-0 w).entries c.args.key.now w (grind (arith, common_steps)) is c.requires (c.in_ok-places.ensures.update.2 w) c.reserve.ensures.newest_first
+    put_ordered c.args.places.now.entries _ (map_with_value c.in_ok-places.field-0 w).entries c.args.key.now w (grind (arith, common_steps)) is c.requires c.bytes.ensures.in_range (c.in_ok-places.ensures.update.2 w) c.reserve.ensures.newest_first
 
 pub returns-in_err-reserve-clause-err : goal.returns-in_err-reserve-clause-err
 returns-in_err-reserve-clause-err c =
@@ -24,7 +24,7 @@ pub returns-clause-well_ordered : goal.returns-clause-well_ordered
 returns-clause-well_ordered c =
     let w = c.put.new.self in
     let is = rw c.in_ok-copy.ensures at c.in_ok-places.ensures.update.1 w in
-    put_ordered c.args.places.now.entries _ (map_with_value c.in_ok-places.field-0 w).entries c.args.key.now w (grind (arith, common_steps)) is c.requires (c.in_ok-places.ensures.update.2 w) c.put.ensures.newest_first
+    put_ordered c.args.places.now.entries _ (map_with_value c.in_ok-places.field-0 w).entries c.args.key.now w (grind (arith, common_steps)) is c.requires c.bytes.ensures.in_range (c.in_ok-places.ensures.update.2 w) c.put.ensures.newest_first
 
 pub returns-clause-count : goal.returns-clause-count
 returns-clause-count c =

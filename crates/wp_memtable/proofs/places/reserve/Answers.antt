@@ -17,4 +17,4 @@ returns-clause-same_versions c =
 pub returns-clause-well_ordered : goal.returns-clause-well_ordered
 returns-clause-well_ordered c =
     let is = rw (c.get_mut.follows.holds-at-none, c.in_ok-copy.ensures) at c.in_ok-insert.ensures.entries in
-    inserted_ordered c.args.places.now.entries _ c.args.key.now c.new.result is c.requires c.in_ok-insert.ensures.ordered c.new.ensures.newest_first
+    inserted_ordered c.args.places.now.entries _ c.args.key.now c.new.result is c.bytes.ensures.in_range c.requires c.in_ok-insert.ensures.ordered c.new.ensures.newest_first

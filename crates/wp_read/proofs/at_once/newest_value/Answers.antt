@@ -13,6 +13,7 @@ use Rattle.wp_read.specs.Values.{NoneCommitted}
 use Rattle.wp_read.proofs.AtOnce.{reads_on, reads_on_then, same_client}
 use Rattle.wp_read.proofs.Decides.{reading_of}
 use Rattle.wp_read.proofs.Rounds.{parts_at, is_in}
+use Rattle.wp_read.proofs.Shows.{have_versions}
 use Rattle.wp_read.proofs.at_once.newest_value.Goals as goal
 
 not_none : (n : ℕ) (empty : Bool) → empty ≡ (n == 0) → empty ≡ false → 0 < n
@@ -35,7 +36,7 @@ decide_free-requires-clause-version g c =
     let x = c.index-as_slice-0.result in let found = c.as_slice-2.result.now in let lt = subst (λ (n : ℕ). 0 < n) (ap (λ (x : List Version). length x) (c.as_slice.ensures.value ∙ sym c.as_slice-2.ensures.value)) (not_none (length c.as_slice.result.now) c.is_empty.result c.is_empty.ensures c.if-is_empty.false) in
     let shows = c.in_ok-found.ensures.found c.args.snapshot.now c.requires.registered in
     subst (λ (y : Version). y.number ≤ c.args.snapshot.now.number → has_versions_at c.copy_newest.new.seat.knows.participant.seen y.number ≡ true) c.index-as_slice-0.is
-    (λ le. subst (λ (p : Participant). has_versions_at p.seen x.number ≡ true) (sym (same_client c.copy_newest.ensures.goes)) (shows.are_versions x (subst (IsIn x) c.as_slice-2.ensures.value (is_in found 0 x lt c.index-as_slice-0.is)) le))
+    (λ le. subst (λ (p : Participant). has_versions_at p.seen x.number ≡ true) (sym (same_client c.copy_newest.ensures.goes)) (have_versions c.args.seat.now.knows.participant.seen c.args.key.now c.args.snapshot.now.number c.in_ok-found.found shows.are x (subst (IsIn x) c.as_slice-2.ensures.value (is_in found 0 x lt c.index-as_slice-0.is)) le))
 
 pub returns-in-Decided-true-clause-value : goal.returns-in-Decided-true-clause-value
 returns-in-Decided-true-clause-value g c =
@@ -43,7 +44,7 @@ returns-in-Decided-true-clause-value g c =
     let shows = c.in_ok-found.ensures.found c.args.snapshot.now c.requires.registered in
     let are = sym c.as_slice-2.ensures.value ∙ parts_at found 0 x lt c.index-as_slice-0.is in
     let right = subst (IsRight c.copy_newest.new.seat.knows.participant.seen (slice_index_or found 0 x).number c.args.snapshot.now.number) c.in-Decided-true.field-0-test c.in-Decided-true.ensures.4 in
-    c.take_value.ensures [] rest x are refl
+    ap (λ (v : Version). v.value) (c.take_version-value.ensures [] rest x are refl)
     ∙ shows.first [] rest x are (λ v there committed. there)
     (subst (λ (y : Participant × Version). IsCommittedAt y.0.seen y.1.number c.args.snapshot.now.number) (λ i. ((same_client c.copy_newest.ensures.goes) i, (sym c.index-as_slice-0.is) i)) right)
 
@@ -65,8 +66,8 @@ returns-then-is_empty-clause-value g c =
 pub decide_free-requires-clause-seat : goal.decide_free-requires-clause-seat
 decide_free-requires-clause-seat g c = ap (λ (x : SeatState). x.table) c.copy_newest.ensures.goes.same ∙ c.requires.holds.1.same_table
 
-pub take_value-requires : goal.take_value-requires
-take_value-requires g c =
+pub take_version-value-requires : goal.take_version-value-requires
+take_version-value-requires g c =
     subst (λ (xs : List Version). 0 < length xs) c.as_slice.ensures.value (not_none (length c.as_slice.result.now) c.is_empty.result c.is_empty.ensures c.if-is_empty.false)
 
 pub returns-in-Decided-true-clause-goes : goal.returns-in-Decided-true-clause-goes

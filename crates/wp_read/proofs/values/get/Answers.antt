@@ -1,93 +1,50 @@
-use Rattle.std.proofs.Common.{◌≡◌, List, sym, subst, ◌∙◌, rules}
+use Rattle.std.proofs.Common.{◌≡◌, sym, subst, ◌∙◌}
 use Rattle.std.proofs.lemmas.Result.{err_from_is_err_and}
-use Rattle.wp_model.specs.declared.version.Version.{Version}
-use Rattle.wp_model.specs.History.{value_at}
+use Rattle.std.specs.Option.{option_map}
 use Rattle.wp_core.specs.Lists.{IsIn}
 use Rattle.wp_core.specs.World.{Participant}
 use Rattle.wp_shared.proofs.Onward.{continues_still}
-use Rattle.wp_read.specs.Values.{NoneCommitted, Says}
+use Rattle.wp_model.specs.History.{value_at}
+use Rattle.wp_read.specs.Values.{Says}
+use Rattle.wp_read.proofs.Shows.{row_value}
 use Rattle.wp_read.proofs.values.get.Goals as goal
 
-pub look_through-requires-clause-free : goal.look_through-requires-clause-free
-look_through-requires-clause-free g c = c.requires.free
+pub row_behind-requires-clause-free : goal.row_behind-requires-clause-free
+row_behind-requires-clause-free g c = c.look_through.ensures.continues.free
 
-pub look_through-requires-clause-registered : goal.look_through-requires-clause-registered
-look_through-requires-clause-registered g c = c.requires.registered
+pub row_behind-requires-clause-registered : goal.row_behind-requires-clause-registered
+row_behind-requires-clause-registered g c = subst (λ (p : Participant). IsIn c.args.snapshot.now p.registered) (sym c.look_through.ensures.same) c.requires.registered
 
-pub look_through-requires-in-rounds-clause-earlier : goal.look_through-requires-in-rounds-clause-earlier
-look_through-requires-in-rounds-clause-earlier g c =
-    subst (λ (y : Participant × List Version). NoneCommitted y.0.seen c.args.snapshot.now.number y.1) (λ i. ((sym c.rounds.invariant.same) i, (sym c.as_slice.ensures.value) i)) c.rounds.invariant.none
+pub row_behind-requires-clause-first : goal.row_behind-requires-clause-first
+row_behind-requires-clause-first g c = subst (λ (p : Participant). Says p.seen c.args.key.now c.args.snapshot.now.number c.in_ok-first.first) (sym c.look_through.ensures.same) c.in_ok-first.ensures.says
 
-pub rounds-preserved : goal.rounds-preserved
-rounds-preserved g c =
-    let k = c.rounds.invariant in let next = c.look_through-in-rounds in record {
-      continues = continues_still c.args.store.now c.args.seat.now c.rounds.seat next.new.seat c.args.seat.now.knows.participant k.continues next.ensures.continues;
-      same = next.ensures.same ∙ k.same;
-      none = subst (λ (p : Participant). NoneCommitted p.seen c.args.snapshot.now.number c.in-More-2.found) k.same (subst (Says c.rounds.seat.knows.participant.seen c.args.key.now c.args.snapshot.now.number) c.in-More-2.is c.in_ok-value-2.ensures.says);
-      some = search rules;
-    }
+pub returns-in_err-first-clause-continues : goal.returns-in_err-first-clause-continues
+returns-in_err-first-clause-continues g c = c.look_through.ensures.continues
 
-pub returns-in_err-value-clause-continues : goal.returns-in_err-value-clause-continues
-returns-in_err-value-clause-continues g c = c.look_through.ensures.continues
+pub returns-in_err-first-clause-same : goal.returns-in_err-first-clause-same
+returns-in_err-first-clause-same g c = c.look_through.ensures.same
 
-pub returns-in_err-value-clause-same : goal.returns-in_err-value-clause-same
-returns-in_err-value-clause-same g c = c.look_through.ensures.same
+pub returns-in_err-first-clause-value : goal.returns-in_err-first-clause-value
+returns-in_err-first-clause-value g c = let p = err_from_is_err_and c.from_residual.result c.from_residual.ensures.1 in rw p.1 tt
 
-pub returns-in-Done-clause-continues : goal.returns-in-Done-clause-continues
-returns-in-Done-clause-continues g c = c.look_through.ensures.continues
+pub returns-in_err-row-clause-continues : goal.returns-in_err-row-clause-continues
+returns-in_err-row-clause-continues g c =
+    continues_still c.args.store.now c.args.seat.now c.look_through.new.seat c.row_behind.new.seat c.args.seat.now.knows.participant c.look_through.ensures.continues c.row_behind.ensures.continues
 
-pub returns-in-Done-clause-same : goal.returns-in-Done-clause-same
-returns-in-Done-clause-same g c = c.look_through.ensures.same
+pub returns-in_err-row-clause-same : goal.returns-in_err-row-clause-same
+returns-in_err-row-clause-same g c = c.row_behind.ensures.same ∙ c.look_through.ensures.same
 
-pub returns-in_err-value-clause-value : goal.returns-in_err-value-clause-value
-returns-in_err-value-clause-value g c = let p = err_from_is_err_and c.from_residual.result c.from_residual.ensures.1 in rw p.1 tt
+pub returns-in_err-row-clause-value : goal.returns-in_err-row-clause-value
+returns-in_err-row-clause-value g c = let p = err_from_is_err_and c.from_residual-in_err-row.result c.from_residual-in_err-row.ensures.1 in rw p.1 tt
 
-pub returns-in-Done-clause-value : goal.returns-in-Done-clause-value
-returns-in-Done-clause-value g c =
-    subst (λ (p : Participant). c.in-Done.value ≡ value_at p.seen c.args.key.now c.args.snapshot.now.number) (sym c.look_through.ensures.same)
-    (subst (Says c.args.seat.now.knows.participant.seen c.args.key.now c.args.snapshot.now.number) c.in-Done.is c.in_ok-value.ensures.says)
+pub returns-clause-continues : goal.returns-clause-continues
+returns-clause-continues g c =
+    continues_still c.args.store.now c.args.seat.now c.look_through.new.seat c.row_behind.new.seat c.args.seat.now.knows.participant c.look_through.ensures.continues c.row_behind.ensures.continues
 
-pub rounds-init : goal.rounds-init
-rounds-init g c = record {
-  continues = c.look_through.ensures.continues;
-  same = c.look_through.ensures.same;
-  none = subst (Says c.args.seat.now.knows.participant.seen c.args.key.now c.args.snapshot.now.number) c.in-More.is c.in_ok-value.ensures.says;
-  some = search rules;
-}
+pub returns-clause-same : goal.returns-clause-same
+returns-clause-same g c = c.row_behind.ensures.same ∙ c.look_through.ensures.same
 
-pub returns-in_err-most-clause-continues : goal.returns-in_err-most-clause-continues
-returns-in_err-most-clause-continues g c = c.rounds.invariant.continues
-
-pub returns-in_err-most-clause-same : goal.returns-in_err-most-clause-same
-returns-in_err-most-clause-same g c = c.rounds.invariant.same
-
-pub returns-in_err-most-clause-value : goal.returns-in_err-most-clause-value
-returns-in_err-most-clause-value g c = let p = err_from_is_err_and c.from_residual-in_err-most.result c.from_residual-in_err-most.ensures.1 in rw p.1 tt
-
-pub look_through-requires-in-rounds-clause-free : goal.look_through-requires-in-rounds-clause-free
-look_through-requires-in-rounds-clause-free g c = c.rounds.invariant.continues.free
-
-pub look_through-requires-in-rounds-clause-registered : goal.look_through-requires-in-rounds-clause-registered
-look_through-requires-in-rounds-clause-registered g c = subst (λ (p : Participant). IsIn c.args.snapshot.now p.registered) (sym c.rounds.invariant.same) c.requires.registered
-
-pub returns-in_err-value-2-clause-continues : goal.returns-in_err-value-2-clause-continues
-returns-in_err-value-2-clause-continues g c =
-    continues_still c.args.store.now c.args.seat.now c.rounds.seat c.look_through-in-rounds.new.seat c.args.seat.now.knows.participant c.rounds.invariant.continues c.look_through-in-rounds.ensures.continues
-
-pub returns-in_err-value-2-clause-same : goal.returns-in_err-value-2-clause-same
-returns-in_err-value-2-clause-same g c = c.look_through-in-rounds.ensures.same ∙ c.rounds.invariant.same
-
-pub returns-in-Done-2-clause-continues : goal.returns-in-Done-2-clause-continues
-returns-in-Done-2-clause-continues g c =
-    continues_still c.args.store.now c.args.seat.now c.rounds.seat c.look_through-in-rounds.new.seat c.args.seat.now.knows.participant c.rounds.invariant.continues c.look_through-in-rounds.ensures.continues
-
-pub returns-in-Done-2-clause-same : goal.returns-in-Done-2-clause-same
-returns-in-Done-2-clause-same g c = c.look_through-in-rounds.ensures.same ∙ c.rounds.invariant.same
-
-pub returns-in_err-value-2-clause-value : goal.returns-in_err-value-2-clause-value
-returns-in_err-value-2-clause-value g c = let p = err_from_is_err_and c.from_residual-in_err-value-2.result c.from_residual-in_err-value-2.ensures.1 in rw p.1 tt
-
-pub returns-in-Done-2-clause-value : goal.returns-in-Done-2-clause-value
-returns-in-Done-2-clause-value g c =
-    subst (λ (p : Participant). c.in-Done-2.value ≡ value_at p.seen c.args.key.now c.args.snapshot.now.number) (sym c.look_through-in-rounds.ensures.same)
-    (subst (Says c.rounds.seat.knows.participant.seen c.args.key.now c.args.snapshot.now.number) c.in-Done-2.is c.in_ok-value-2.ensures.says)
+pub returns-clause-value : goal.returns-clause-value
+returns-clause-value g c =
+    let key = c.args.key.now in let n = c.args.snapshot.now.number in
+    c.value_of.ensures ∙ subst (λ (p : Participant). option_map (λ row. row.1) c.in_ok-row.row ≡ value_at p.seen key n) (sym c.row_behind.ensures.same) (row_value c.look_through.new.seat.knows.participant.seen key n c.in_ok-row.row c.in_ok-row.ensures.row)

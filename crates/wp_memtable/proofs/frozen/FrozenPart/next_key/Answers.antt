@@ -1,9 +1,13 @@
-use Rattle.std.proofs.Common.{◌≡◌, ℕ, List, Option, ap, subst, ◌∙◌}
+use Rattle.std.proofs.Common.{◌≡◌, ℕ, true, List, Option, ap, subst, ◌∙◌}
+use Rattle.std.specs.List.{list_all}
 use Rattle.std.proofs.lemmas.Result.{IfOk-weaker}
 use Rattle.wp_model.specs.Rows.{next_key}
 use Rattle.wp_model.specs.Versions.{AreInOrder}
-use Rattle.wp_memtable.specs.Bounds.{between}
+use Rattle.wp_model.specs.Word.{is_key}
+use Rattle.wp_model.specs.declared.version.Version.{Version}
+use Rattle.wp_memtable.specs.Bounds.{between, is_between}
 use Rattle.wp_memtable.proofs.Between.{in_order_between}
+use Rattle.wp_memtable.proofs.NextKey.{kept_words}
 use Rattle.wp_memtable.proofs.frozen.FrozenPart.next_key.Goals as goal
 
 pub returns-clause-found : goal.returns-clause-found
@@ -13,3 +17,6 @@ returns-clause-found c =
 
 pub returns-clause-in_order : goal.returns-clause-in_order
 returns-clause-in_order c = subst AreInOrder (ap (between c.self.inside.bounds) c.deref.ensures ∙ c.self.view_is) (in_order_between c.self.inside.bounds _ c.next_between.ensures.in_order)
+
+pub returns-clause-in_range : goal.returns-clause-in_range
+returns-clause-in_range c = subst (λ (vs : List Version). list_all (λ v. is_key v.key) vs ≡ true) (ap (between c.self.inside.bounds) c.deref.ensures ∙ c.self.view_is) (kept_words (λ v. is_between c.self.inside.bounds v.number) _ c.next_between.ensures.in_range)

@@ -13,7 +13,7 @@ count_of-self-inside-requires c =
 pub invariant_of-self : goal.invariant_of-self
 invariant_of-self c =
     let all = retained (nat_lt c.args.n) _ _ (λ k v b w f' t. search rules) _ _ c.retain.ensures.filtered in
-    (record { keys = c.retain.ensures.ordered; newest_first = all.newest_first }, c.count_of-self-inside.ensures, subst (AreWithin c.self.inside.least c.self.inside.greatest) (sym all.versions) (within_filter _ _ (nat_lt c.args.n) _ c.self.invariant.2))
+    (record { keys = c.retain.ensures.ordered; words = all.words c.self.invariant.0.words; newest_first = all.newest_first }, c.count_of-self-inside.ensures, subst (AreWithin c.self.inside.least c.self.inside.greatest) (sym all.versions) (within_filter _ _ (nat_lt c.args.n) _ c.self.invariant.2))
 
 pub returns : goal.returns
 returns c =

@@ -1,7 +1,7 @@
 use Rattle.std.proofs.Common.{◌≡◌, ◌≤◌, ◌-◌, ◌^◌}
 use Rattle.wp_shared.specs.Calls.{Continues}
 use Rattle.wp_read.specs.Values.{NoneCommitted}
-use Rattle.wp_read.proofs.values.get.Given as goal
+use Rattle.wp_read.proofs.values.row_behind.Given as goal
 
 abbrev pub invariant-rounds : goal.invariant-rounds
 invariant-rounds g l = record {
