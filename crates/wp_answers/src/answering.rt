@@ -13,7 +13,9 @@ use crate::maintenance::{compact, flush, renew};
 use std::alloc::{AllocError, Global};
 use std::mem;
 use std::sync::Wait;
-use wp_client::{HeldTxn, Holdings, begin, free, get, get_at, hear, lock, pin, snap, take, tell};
+use wp_client::{
+    HeldTxn, Holdings, begin, free, get, get_at, hear, lock, pin, scan, scan_at, snap, take, tell,
+};
 use wp_outside::Disk;
 use wp_shared::{Seat, Shared};
 use wp_text::{Command, Reply};
@@ -112,6 +114,10 @@ fn obey<D: Disk + Drop, R: Wait>(
         }
         Command::Get(key) => get(store, rt, alloc, seat, &held.txn, key),
         Command::GetAt(key, label) => get_at(store, rt, alloc, seat, held, key, label),
+        Command::Scan(from, to) => scan(store, rt, alloc, seat, &held.txn, from, to),
+        Command::ScanAt(from, to, label) => {
+            scan_at(store, rt, alloc, seat, held, from, to, label)
+        }
         Command::Snap(label) => snap(store, rt, alloc, seat, held, label),
         Command::Pin => pin(store, rt, seat, &mut held.txn),
         Command::Lock(key) => lock(store, rt, alloc, seat, &mut held.txn, key),

@@ -11,6 +11,7 @@ pub mod Asking
 pub mod Staged
 pub mod Locking
 pub mod Reading
+pub mod Ranges
 pub mod Fresh
 pub mod Labelled
 pub mod Snapping

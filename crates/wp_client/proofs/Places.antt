@@ -3,6 +3,7 @@ use Rattle.std.proofs.Common.{◌≡◌, ℕ, ◌<◌, List, [], ◌∷◌, ◌+
 use Rattle.std.specs.List.{remove}
 use Rattle.std.proofs.lemmas.List.{length-append}
 use Rattle.wp_model.specs.History.{value_at}
+use Rattle.wp_model.specs.Rows.{Pair, rows}
 use Rattle.wp_text.specs.declared.script.Command.TheVariants as command
 use Rattle.wp_text.specs.declared.reply.Reply.TheVariants as reply
 use Rattle.wp_core.specs.Lists.{IsIn}
@@ -13,10 +14,14 @@ use Rattle.wp_shared.specs.Seats.{SharedState, SeatState}
 use Rattle.wp_open_txns.specs.Calls.{Keeps}
 use Rattle.wp_replies.specs.Plan.{read_reply}
 use Rattle.wp_replies.specs.Replies.{refuses_label}
+use Rattle.wp_client.specs.declared.holdings.HeldTxn.{HeldTxn}
+use Rattle.wp_client.specs.declared.holdings.HeldTxn.TheVariants as held
 use Rattle.wp_client.specs.declared.holdings.HeldSnapshot.{HeldSnapshot}
 use Rattle.wp_client.specs.Answers.{IsAnswered}
-use Rattle.wp_client.specs.Holdings.{HoldingsState, labelled, client_of, Holds}
+use Rattle.wp_client.specs.Holdings.{HoldingsState, labelled, txn_of, client_of, Holds}
 use Rattle.wp_client.specs.Replies.{IsPlace}
+use Rattle.wp_client.proofs.Clients.{having}
+use Rattle.wp_client.proofs.Ranges.{scanned_at_answers}
 use Rattle.wp_client.proofs.Reading.{at_answers}
 use Rattle.wp_client.proofs.Snapping.{place_number, at_place, removed_at, place_registered, place_within, snapped_answers, snapped_holds, Released, freed_answers, freed_holds}
 
@@ -48,6 +53,15 @@ module _ {D : Type 0} (z : SharedState D) (old : SeatState) (h : HoldingsState) 
           let same : s.snapshot.number ≡ at.found.snapshot.number = ap (λ (x : HeldSnapshot). x.snapshot.number) found_is in
           let more = shorter new.knows.participant.seen old.knows.participant.seen goes.seen in
           at_answers z old new (client_of h) key label goes value s.snapshot.number (place_number h.snapshots label i at ∙ ap Some (sym same)) (omega (arith, there, same, more)) shown
+
+      pub scanned_at : (from to : List ℕ) (pairs : List Pair) → h.txn ≡ held.Idle → Keeps z old new → pairs ≡ rows new.knows.participant.seen from to s.snapshot.number
+          → IsAnswered z old new (client_of h) (client_of h) (command.ScanAt from to label) (reply.Rows pairs s.snapshot.number)
+      scanned_at from to pairs idle goes shown =
+          let there = place_within (length old.knows.participant.seen) h.snapshots label i has.within at in
+          let same : s.snapshot.number ≡ at.found.snapshot.number = ap (λ (x : HeldSnapshot). x.snapshot.number) found_is in
+          let more = shorter new.knows.participant.seen old.knows.participant.seen goes.seen in
+          subst (λ (t : HeldTxn). IsAnswered z old new (having (txn_of t) (map labelled h.snapshots)) (having (txn_of t) (map labelled h.snapshots)) (command.ScanAt from to label) (reply.Rows pairs s.snapshot.number)) (sym idle)
+          (scanned_at_answers z old new from to label (map labelled h.snapshots) goes pairs s.snapshot.number (place_number h.snapshots label i at ∙ ap Some (sym same)) (omega (arith, there, same, more)) shown)
 
       module _ (out : Released z old new s.snapshot) where
         taken_out : Released z old new at.found.snapshot

@@ -32,11 +32,12 @@ pub record WasReadLocked {D : Type 0} (z : SharedState D) (old new : SeatState) 
   pub published : WasPublished z behind new n
   pub still_locked : HasKeyLocked new.knows.participant name key
 
--- A fresh read, a snapshot and a pin have such a number, a lock one behind it, and what is told and heard is one. Of other replies nothing
+-- A fresh read or scan, a snapshot and a pin have such a number, a read by `lock` has one that was published once the key was locked, and what is told and heard is one. Of other replies nothing
 -- is asked.
 abbrev pub NamesSeen : {D : Type 0} → SharedState D → SeatState → SeatState → Command → Reply → Type 0
 NamesSeen z old new (command.Get key) (reply.Got value n) = WasPublished z old new n
 NamesSeen z old new (command.Get key) (reply.Missing n) = WasPublished z old new n
+NamesSeen z old new (command.Scan from to) (reply.Rows pairs n) = WasPublished z old new n
 NamesSeen z old new (command.Snap label) (reply.Snapped n) = WasPublished z old new n
 NamesSeen z old new command.Pin (reply.Pinned n) = WasPublished z old new n
 NamesSeen z old new (command.Lock key) (reply.Got value n) = WasReadLocked z old new key n

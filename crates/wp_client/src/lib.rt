@@ -27,6 +27,7 @@ mod naming;
 mod pinning;
 mod reads;
 mod refusals;
+mod scanning;
 mod snapshots;
 mod staging;
 
@@ -37,5 +38,6 @@ pub use naming::{begin, take};
 pub use pinning::{lock, pin};
 pub use reads::{get, get_at};
 pub use refusals::refusal;
+pub use scanning::{scan, scan_at};
 pub use snapshots::{free, snap};
 pub use staging::stage;

@@ -318,6 +318,8 @@ module _ (e : Evidence) (other : List Entry) (k : IsLike e other) where
   condition_other progress client p (command.Get key) reply.MissingOwn f k = own_other client.txn key _ f.txn k
   condition_other progress client p (command.GetAt key label) (reply.Got value n) f k = ((k.0.0, within_other n k.0.1), value_other key n _ (snapshot_from client label n f.snapshots k.0.0) k.0.1 k.1)
   condition_other progress client p (command.GetAt key label) (reply.Missing n) f k = ((k.0.0, within_other n k.0.1), value_other key n _ (snapshot_from client label n f.snapshots k.0.0) k.0.1 k.1)
+  condition_other progress client p (command.Scan from to) (reply.Rows pairs n) f k = (k.0, fresh_other progress.last n k.1, k.2 ∙ a.rows from to n (let low = f.last in omega (arith, low, k.1.0)) k.1.1)
+  condition_other progress client p (command.ScanAt from to label) (reply.Rows pairs n) f k = (k.0, (k.1.0, within_other n k.1.1), k.2 ∙ a.rows from to n (snapshot_from client label n f.snapshots k.1.0) k.1.1)
   condition_other progress client p (command.Snap label) (reply.Snapped n) f k = fresh_other progress.last n k
   condition_other progress client p (command.Free label) reply.Freed f k = k
   condition_other progress client p (command.Begin name) reply.Begun f k = k

@@ -1,5 +1,5 @@
 -- The rows of the table stay true as the history grows, where what was known of the other clients is known still.
-use Rattle.std.proofs.Common.{◌≡◌, ℕ, zero, suc, ◌-◌, ◌≤◌, Bool, true, List, [], ◌∷◌, ◌++◌, length, take, Option, Some, None, refl, sym, ap, ◌∙◌, subst, arith, length-append, inl, inr}
+use Rattle.std.proofs.Common.{◌≡◌, ℕ, zero, suc, ◌-◌, ◌≤◌, Bool, true, List, [], ◌∷◌, ◌++◌, length, take, Option, Some, None, refl, sym, ap, ◌∙◌, subst, arith, length-append, inl, inr, false}
 use Rattle.std.specs.Prelude.{slice_get, IfSome}
 use Rattle.std.proofs.lemmas.List.{take-append-le}
 use Rattle.std.proofs.lemmas.Option.{slice_get_within}
@@ -13,6 +13,7 @@ use Rattle.wp_cuts.specs.Kept.{carried_versions, HasKeysAt}
 use Rattle.wp_model.specs.Changed.{conflict}
 use Rattle.wp_model.specs.History.{entry_at, name_at, batch_at, is_undecided, undecided, is_changed, named, newest}
 use Rattle.wp_model.proofs.Entries.{batch_at_old}
+use Rattle.wp_model.proofs.RowLaws.{rows_stay}
 use Rattle.wp_text.specs.declared.script.Command.{Command}
 use Rattle.wp_text.specs.declared.script.Command.TheVariants as command
 use Rattle.wp_text.specs.declared.reply.Reply.{Reply}
@@ -224,6 +225,8 @@ condition_more e more later within f progress client p (command.Get key) (reply.
 condition_more e more later within f progress client p (command.Get key) reply.MissingOwn k = own_more e.history more client.txn key _ k
 condition_more e more later within f progress client p (command.GetAt key label) (reply.Got value n) k = ((k.0.0, longer e.history more n k.0.1), value_more e.history more key n _ k.0.1 k.1)
 condition_more e more later within f progress client p (command.GetAt key label) (reply.Missing n) k = ((k.0.0, longer e.history more n k.0.1), value_more e.history more key n _ k.0.1 k.1)
+condition_more e more later within f progress client p (command.Scan from to) (reply.Rows pairs n) k = (k.0, fresh_more e.history more progress.last n k.1, k.2 ∙ sym (rows_stay e.history more false from to n k.1.1))
+condition_more e more later within f progress client p (command.ScanAt from to label) (reply.Rows pairs n) k = (k.0, (k.1.0, longer e.history more n k.1.1), k.2 ∙ sym (rows_stay e.history more false from to n k.1.1))
 condition_more e more later within f progress client p (command.Snap label) (reply.Snapped n) k = fresh_more e.history more progress.last n k
 condition_more e more later within f progress client p (command.Free label) reply.Freed k = k
 condition_more e more later within f progress client p (command.Begin name) reply.Begun k = k

@@ -31,13 +31,15 @@ use Rattle.wp_replies.specs.Client.{Client, AreWithin, number_of, pins_of, own_b
 use Rattle.wp_replies.specs.After.{with_staged, with_locked_key, with_pin, labels_after}
 use Rattle.wp_replies.specs.Kind.{is_logged, fresh_in}
 use Rattle.wp_replies.specs.Progress.{Progress, knows_label, progress_after}
-use Rattle.wp_replies.specs.Replies.{WasLocked, WasTold, Evidence, IsKnown, refusal_of, refuses_change, refuses_lock, IsLoggedAt, WasUndecided, IsBusy, TxnIsOpen, HasNotKey, ConflictsAt, KeepsKeys, TxnIsWithin, OwnSays, needed, AsksFor, unless_labelled, unless_idle, unless_open, if_idle, unless_prepared, PreparesAt, CommitsAt, RollsBackAt, UnlessRefused}
-use Rattle.wp_replies.specs.Plan.{asked_of, next, holds_beyond, holder_then, busy_or, unless_busy, conflict_or, unless_changed, with_key_plan, change_plan, read_or_own, pin_plan, lock_plan, read_reply, get_reply, get_at_reply, free_reply, begin_reply, begin_plan, prepare_plan, commit_plan, rollback_plan, leave_plan, take_reply, take_plan}
+use Rattle.wp_replies.specs.Replies.{WasLocked, WasTold, Evidence, IsKnown, refusal_of, refuses_change, refuses_lock, IsLoggedAt, WasUndecided, IsBusy, TxnIsOpen, HasNotKey, ConflictsAt, KeepsKeys, TxnIsWithin, OwnSays, needed, AsksFor, unless_labelled, unless_idle, unless_open, if_idle, unless_prepared, PreparesAt, CommitsAt, RollsBackAt, UnlessRefused, refuses_scan}
+use Rattle.wp_replies.specs.Plan.{asked_of, next, holds_beyond, holder_then, busy_or, unless_busy, conflict_or, unless_changed, with_key_plan, change_plan, read_or_own, pin_plan, lock_plan, read_reply, get_reply, get_at_reply, free_reply, begin_reply, begin_plan, prepare_plan, commit_plan, rollback_plan, leave_plan, take_reply, take_plan, rows_reply, scan_plan, scan_at_plan}
 use Rattle.wp_replies.specs.Due.{plan_in, heard, reply_to, due, taken, client_after}
 use Rattle.wp_replies.specs.Moments.{AreLockedBy, TxnIsKept, AreDueFrom}
 use Rattle.wp_replies.specs.Session.{IsSession}
 use Rattle.wp_model.proofs.Found.{found_holder, found_named}
 use Rattle.wp_model.proofs.Entries.{undecided_within, batch_at_old}
+use Rattle.wp_model.specs.Rows.{rows}
+use Rattle.wp_model.proofs.RowLaws.{same_rows}
 use Rattle.wp_replies.proofs.Within.{within_same, within_filter, within_more, number_within}
 use Rattle.wp_replies.proofs.Conditions.{snapshots_after}
 use Rattle.wp_replies.proofs.Scenes.{entry_in_front, next_entry, value_in_front, Scene, front, store_in, ConditionOf, IsAllowed, front_size, front_fresh, say_refused, say_allowed, board_allowed, may_fail, log_allowed, entries_in, one_allowed}
@@ -185,6 +187,41 @@ get_at_allowed {client = client} key label s = by (number_of client.snapshots la
     by (Some n) is =
         let low : n ≤ s.from = subst (λ (o : Option ℕ). IfSome o (λ m. m ≤ s.from)) is (number_within s.from client.snapshots label s.snapshots) in
         read n (value_at (front s) key n) (ap (λ (o : Option ℕ). Say (get_at_reply (front s) o key label)) is) is (omega (arith, low, s.given.earlier, s.given.grows, s.given.within)) (sym (value_in_front s.evidence.history key n s.given.before (omega (arith, low, s.given.earlier))))
+
+-- ---- scans
+
+module _ {client : Client} {command_ : Command} {answer : Reply} (from to : List ℕ) (s : Scene client command_ answer) where
+  rows_in_front : (n : ℕ) → n ≤ length (front s) → rows (front s) from to n ≡ rows s.evidence.history from to n
+  rows_in_front n low = same_rows (front s) s.evidence.history n (λ key. value_in_front s.evidence.history key n s.given.before (omega (arith, low, front_size s))) false from to
+
+scan_allowed : {client : Client} {answer : Reply} (from to : List ℕ) (s : Scene client (command.Scan from to) answer) → IsAllowed s
+scan_allowed {client = client} from to s = by client.txn refl
+  where
+    n : ℕ
+    n = length (front s)
+
+    by : (txn : Txn) → client.txn ≡ txn → IsAllowed s
+    by Idle is = say_allowed s (rows_reply (front s) from to n) (ap (λ (txn : Txn). scan_plan (front s) txn from to) is) refl (ap unless_idle is) (is, front_fresh s, rows_in_front from to s n (omega arith))
+    by (Open own) is = say_refused s reply.State (ap (λ (txn : Txn). scan_plan (front s) txn from to) is) refl (ap unless_idle is)
+    by (Prepared p) is = say_refused s reply.State (ap (λ (txn : Txn). scan_plan (front s) txn from to) is) refl (ap unless_idle is)
+
+scan_at_allowed : {client : Client} {answer : Reply} (from to label : List ℕ) (s : Scene client (command.ScanAt from to label) answer) → IsAllowed s
+scan_at_allowed {client = client} from to label s = by client.txn refl (number_of client.snapshots label) refl
+  where
+    said : (txn : Txn) (number : Option ℕ) → client.txn ≡ txn → number_of client.snapshots label ≡ number → plan_in (store_in s) client (command.ScanAt from to label) ≡ scan_at_plan (front s) txn number from to label
+    said txn number idle is = λ i. scan_at_plan (front s) (idle i) (is i) from to label
+
+    refuses : (txn : Txn) (number : Option ℕ) → client.txn ≡ txn → number_of client.snapshots label ≡ number → refusal_of client (command.ScanAt from to label) ≡ refuses_scan txn number label
+    refuses txn number idle is = λ i. refuses_scan (idle i) (is i) label
+
+    by : (txn : Txn) → client.txn ≡ txn → (number : Option ℕ) → number_of client.snapshots label ≡ number → IsAllowed s
+    by Idle idle None is = say_refused s (reply.UnknownSnapshot label) (said Idle None idle is) refl (refuses Idle None idle is)
+    by Idle idle (Some n) is =
+        let low : n ≤ s.from = subst (λ (o : Option ℕ). IfSome o (λ m. m ≤ s.from)) is (number_within s.from client.snapshots label s.snapshots) in
+        say_allowed s (rows_reply (front s) from to n) (said Idle (Some n) idle is) refl (refuses Idle (Some n) idle is)
+        (idle, (is, omega (arith, low, s.given.earlier, s.given.grows, s.given.within)), rows_in_front from to s n (omega (arith, low, s.given.earlier, front_size s)))
+    by (Open own) txn number is = say_refused s reply.State (said (Open own) number txn is) refl (refuses (Open own) number txn is)
+    by (Prepared p) prepared number is = say_refused s reply.State (said (Prepared p) number prepared is) refl (refuses (Prepared p) number prepared is)
 
 -- ---- pin, lock
 
@@ -354,6 +391,8 @@ due_allowed client (command.Put key value) answer s = change_allowed s (change.P
 due_allowed client (command.Del key) answer s = change_allowed s (change.Del key) (reply.Del (next (front s))) refl refl (λ is. ap (λ (t : Txn). needed t (command.Del key)) is) (λ is. subst (λ (t : Txn). AsksFor t (command.Del key) (entry.Write (change.Del key ∷ []) ∷ [])) (sym is) refl) refl (λ is here. (is, here)) (λ by new busy. (new, busy)) (λ n conflicts. conflicts) (λ opened. opened)
 due_allowed client (command.Get key) answer s = get_allowed key s
 due_allowed client (command.GetAt key label) answer s = get_at_allowed key label s
+due_allowed client (command.Scan from to) answer s = scan_allowed from to s
+due_allowed client (command.ScanAt from to label) answer s = scan_at_allowed from to label s
 due_allowed client (command.Snap label) answer s = snap_allowed label s
 due_allowed client (command.Free label) answer s = free_allowed label s
 due_allowed client (command.Begin name) answer s = begin_allowed name s
@@ -406,6 +445,13 @@ prepared_fresh client (command.GetAt key label) n s allowed = absurd (by (number
     by : (number : Option ℕ) → UnlessRefused (unless_labelled number label) (reply.Prepared n) ⊥ → ⊥
     by None is = absurd cc
     by (Some m) is = is
+prepared_fresh client (command.ScanAt from to label) n s allowed = absurd (by client.txn (number_of client.snapshots label) allowed)
+  where
+    by : (txn : Txn) (number : Option ℕ) → UnlessRefused (refuses_scan txn number label) (reply.Prepared n) ⊥ → ⊥
+    by Idle None is = absurd cc
+    by Idle (Some m) is = is
+    by (Open own) number is = absurd cc
+    by (Prepared p) number is = absurd cc
 prepared_fresh client other n s allowed = refl
 
 txn_within : (client : Client) (c : Command) (answer : Reply) (s : Scene client c answer) → IsAllowed s → TxnIsWithin s.given.after client.txn → TxnIsWithin s.given.after (client_after (front s) client c answer).txn

@@ -16,7 +16,7 @@ use Rattle.wp_replies.specs.Client.{Client, number_of, has_no_room}
 use Rattle.wp_replies.specs.After.{after_reply}
 use Rattle.wp_replies.specs.Kind.{Plain, kind, number_in, number_of_kind, numbers_logged, acknowledged, fresh_in, last_after}
 use Rattle.wp_replies.specs.Progress.{Progress, progress_after}
-use Rattle.wp_replies.specs.Replies.{Evidence, refuses_change, refuses_lock, unless_idle, unless_open, unless_prepared, if_idle, unless_labelled, refuses_label, refusal_of, IsFresh, IsLoggedAt, PreparesAt, CommitsAt, RollsBackAt, Condition, UnlessRefused, Allows}
+use Rattle.wp_replies.specs.Replies.{Evidence, refuses_change, refuses_lock, unless_idle, unless_open, unless_prepared, if_idle, unless_labelled, refuses_label, refusal_of, IsFresh, IsLoggedAt, PreparesAt, CommitsAt, RollsBackAt, Condition, UnlessRefused, Allows, refuses_scan}
 use Rattle.wp_replies.specs.Session.{IsSession}
 use Rattle.wp_replies.specs.Laws.{ReadsValue, AreReads, NeverFall, AsksLog, AreAsked, Takes, AreLogged}
 use Rattle.wp_replies.proofs.Conditions.{entry_within, snapshots_after}
@@ -52,10 +52,17 @@ idle_plain Idle = (tt, refl, refl, refl)
 idle_plain (Open own) = (refl, tt, refl, tt)
 idle_plain (Prepared p) = (refl, refl, tt, tt)
 
+scan_plain : (txn : Txn) (number : Option ℕ) (label : List ℕ) → IsPlainIfSome (refuses_scan txn number label)
+scan_plain Idle number label = labelled_plain number label
+scan_plain (Open own) number label = refl
+scan_plain (Prepared p) number label = refl
+
 pub refusal_plain : (client : Client) (c : Command) → IsPlainIfSome (refusal_of client c)
 refusal_plain client (command.Put key value) = change_plain client.txn key
 refusal_plain client (command.Del key) = change_plain client.txn key
 refusal_plain client (command.GetAt key label) = labelled_plain (number_of client.snapshots label) label
+refusal_plain client (command.Scan from to) = (idle_plain client.txn).0
+refusal_plain client (command.ScanAt from to label) = scan_plain client.txn (number_of client.snapshots label) label
 refusal_plain client (command.Snap label) = label_plain client.snapshots label
 refusal_plain client (command.Free label) = labelled_plain (number_of client.snapshots label) label
 refusal_plain client (command.Begin name) = (idle_plain client.txn).0
@@ -82,6 +89,8 @@ allowed_read e progress client p (command.Lock key) (reply.Got value n) a = allo
 allowed_read e progress client p (command.Lock key) (reply.Missing n) a = allowed_gives _ (refuses_lock client.txn key) (reply.Missing n) _ (lock_plain client.txn key) (λ condition. (condition.1, condition.2)) (λ plain. absurd cc) a
 allowed_read e progress client p (command.GetAt key label) (reply.Got value n) a = allowed_gives _ (unless_labelled (number_of client.snapshots label) label) (reply.Got value n) _ (labelled_plain (number_of client.snapshots label) label) (λ condition. (condition.0.0, condition.0.1, condition.1)) (λ plain. absurd cc) a
 allowed_read e progress client p (command.GetAt key label) (reply.Missing n) a = allowed_gives _ (unless_labelled (number_of client.snapshots label) label) (reply.Missing n) _ (labelled_plain (number_of client.snapshots label) label) (λ condition. (condition.0.0, condition.0.1, condition.1)) (λ plain. absurd cc) a
+allowed_read e progress client p (command.Scan from to) (reply.Rows pairs n) a = allowed_gives _ (unless_idle client.txn) (reply.Rows pairs n) _ (idle_plain client.txn).0 (λ condition. (condition.1, condition.2)) (λ plain. absurd cc) a
+allowed_read e progress client p (command.ScanAt from to label) (reply.Rows pairs n) a = allowed_gives _ (refuses_scan client.txn (number_of client.snapshots label) label) (reply.Rows pairs n) _ (scan_plain client.txn (number_of client.snapshots label) label) (λ condition. (condition.1.0, condition.1.1, condition.2)) (λ plain. absurd cc) a
 allowed_read e progress client p c r a = tt
 
 pub session_reads : (e : Evidence) (progress : Progress) (client : Client) (cs : List Command) (rs : List Reply) → IsSession e progress client cs rs → AreReads e.history progress.last client.snapshots cs rs
@@ -113,6 +122,7 @@ rolls_fresh h last _ n l = absurd l
 
 unnumbered_fresh : (h : List Entry) (last : ℕ) (c : Command) (r : Reply) → number_in r ≡ None → IfSome (fresh_in c r) (IsFresh h last)
 unnumbered_fresh h last (command.GetAt key label) r none = tt
+unnumbered_fresh h last (command.ScanAt from to label) r none = tt
 unnumbered_fresh h last c r none = subst (λ (o : Option ℕ). IfSome o (IsFresh h last)) (sym none) tt
 
 pub condition_fresh : (e : Evidence) (progress : Progress) (client : Client) (p : ℕ) (r : Reply) (c : Command) → Condition e progress client p c r → IfSome (fresh_in c r) (IsFresh e.history progress.last)
@@ -128,6 +138,9 @@ condition_fresh e progress client p (reply.Missing n) (command.Get key) k = k.1
 condition_fresh e progress client p (reply.Missing n) (command.GetAt key label) k = tt
 condition_fresh e progress client p (reply.Missing n) (command.Lock key) k = k.1
 condition_fresh e progress client p (reply.Missing n) c k = absurd k
+condition_fresh e progress client p (reply.Rows pairs n) (command.Scan from to) k = k.1
+condition_fresh e progress client p (reply.Rows pairs n) (command.ScanAt from to label) k = tt
+condition_fresh e progress client p (reply.Rows pairs n) c k = absurd k
 condition_fresh e progress client p (reply.Snapped n) (command.Snap label) k = k
 condition_fresh e progress client p (reply.Snapped n) c k = absurd k
 condition_fresh e progress client p (reply.Pinned n) command.Pin k = k

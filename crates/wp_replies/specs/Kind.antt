@@ -25,6 +25,7 @@ kind (reply.Committed n) = Logged n 1
 kind (reply.RolledBack n) = Logged n 2
 kind (reply.Got value n) = Published n
 kind (reply.Missing n) = Published n
+kind (reply.Rows pairs n) = Published n
 kind (reply.Snapped n) = Published n
 kind (reply.Pinned n) = Published n
 kind (reply.Unknown name n) = Published n
@@ -172,9 +173,10 @@ number_of_kind other = None
 abbrev pub number_in : Reply → Option ℕ
 number_in answer = number_of_kind (kind answer)
 
--- the fresh number of a reply: that of a read at a snapshot is none
+-- the fresh number of a reply: that of a read or a scan at a snapshot is none
 abbrev pub fresh_in : Command → Reply → Option ℕ
 fresh_in (command.GetAt key label) answer = None
+fresh_in (command.ScanAt from to label) answer = None
 fresh_in other answer = number_in answer
 
 -- the greatest fresh number after a reply

@@ -6,6 +6,7 @@ use Rattle.wp_model.specs.declared.change.Change.TheVariants as change
 use Rattle.wp_model.specs.declared.entry.Entry.{Entry}
 use Rattle.wp_model.specs.declared.entry.Entry.TheVariants as entry
 use Rattle.wp_model.specs.History.{value_at}
+use Rattle.wp_model.specs.Rows.{rows}
 use Rattle.wp_text.specs.declared.script.Command.{Command}
 use Rattle.wp_text.specs.declared.script.Command.TheVariants as command
 use Rattle.wp_text.specs.declared.reply.Reply.{Reply}
@@ -55,7 +56,8 @@ ConditionsTellAlike = (evidence : Evidence) (other : List Entry) (progress : Pro
 
 -- ---- reads
 
--- The value that a read is answered is what the first n entries leave under the key, where n is the reply's number. A
+-- The value that a read is answered is what the first n entries leave under the key, where n is the reply's number, and
+-- the rows of a scan are what they leave under the keys of its range. A
 -- fresh n is nothing that the client has seen pass, and a snapshot's is the one that it was taken at.
 abbrev pub ReadsValue : List Entry → ℕ → List LabelledSnapshot → Command → Reply → Type 0
 ReadsValue history last snapshots (command.Get key) (reply.Got value n) = IsFresh history last n × (value_at history key n ≡ Some value)
@@ -64,6 +66,8 @@ ReadsValue history last snapshots (command.Lock key) (reply.Got value n) = IsFre
 ReadsValue history last snapshots (command.Lock key) (reply.Missing n) = IsFresh history last n × (value_at history key n ≡ None)
 ReadsValue history last snapshots (command.GetAt key label) (reply.Got value n) = (number_of snapshots label ≡ Some n) × (n ≤ length history) × (value_at history key n ≡ Some value)
 ReadsValue history last snapshots (command.GetAt key label) (reply.Missing n) = (number_of snapshots label ≡ Some n) × (n ≤ length history) × (value_at history key n ≡ None)
+ReadsValue history last snapshots (command.Scan from to) (reply.Rows pairs n) = IsFresh history last n × (pairs ≡ rows history from to n)
+ReadsValue history last snapshots (command.ScanAt from to label) (reply.Rows pairs n) = (number_of snapshots label ≡ Some n) × (n ≤ length history) × (pairs ≡ rows history from to n)
 ReadsValue history last snapshots command answer = Unit {0}
 
 abbrev pub AreReads : List Entry → ℕ → List LabelledSnapshot → List Command → List Reply → Type 0

@@ -13,6 +13,7 @@ use Rattle.wp_model.specs.Changed.{conflict}
 use Rattle.wp_model.specs.History.{name_at, batch_at, is_undecided, named, holder_of, value_at}
 use Rattle.wp_model.specs.Legal.{prior}
 use Rattle.wp_model.specs.LockState.{is_among_keys}
+use Rattle.wp_model.specs.Rows.{rows}
 use Rattle.wp_text.specs.declared.script.Command.{Command}
 use Rattle.wp_text.specs.declared.script.Command.TheVariants as command
 use Rattle.wp_text.specs.declared.reply.Reply.{Reply}
@@ -94,6 +95,21 @@ abbrev pub get_at_reply : List Entry → Option ℕ → List ℕ → List ℕ �
 get_at_reply history None key label = reply.UnknownSnapshot label
 get_at_reply history (Some n) key label = read_reply (value_at history key n) n
 
+-- ---- scans
+
+abbrev pub rows_reply : List Entry → List ℕ → List ℕ → ℕ → Reply
+rows_reply history from to n = reply.Rows (rows history from to n) n
+
+abbrev pub scan_at_reply : List Entry → Option ℕ → List ℕ → List ℕ → List ℕ → Reply
+scan_at_reply history None from to label = reply.UnknownSnapshot label
+scan_at_reply history (Some n) from to label = rows_reply history from to n
+
+abbrev pub scan_plan : List Entry → Txn → List ℕ → List ℕ → Plan
+scan_plan history txn from to = refused_or (unless_idle txn) (Say (rows_reply history from to (length history)))
+
+abbrev pub scan_at_plan : List Entry → Txn → Option ℕ → List ℕ → List ℕ → List ℕ → Plan
+scan_at_plan history txn number from to label = refused_or (unless_idle txn) (Say (scan_at_reply history number from to label))
+
 -- ---- pin, lock
 
 abbrev pub pin_plan : List Entry → Txn → Plan
@@ -160,6 +176,8 @@ plan history locked client (command.Put key value) = change_plan history locked 
 plan history locked client (command.Del key) = change_plan history locked client.txn (change.Del key) (reply.Del (next history))
 plan history locked client (command.Get key) = Say (get_reply history (change_to (own_batch history client.txn) key) key)
 plan history locked client (command.GetAt key label) = Say (get_at_reply history (number_of client.snapshots label) key label)
+plan history locked client (command.Scan from to) = scan_plan history client.txn from to
+plan history locked client (command.ScanAt from to label) = scan_at_plan history client.txn (number_of client.snapshots label) from to label
 plan history locked client (command.Snap label) = Say (snap_reply history client.snapshots label)
 plan history locked client (command.Free label) = Say (free_reply (number_of client.snapshots label) label)
 plan history locked client (command.Begin name) = begin_plan history client.txn name

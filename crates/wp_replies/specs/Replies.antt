@@ -12,6 +12,7 @@ use Rattle.wp_model.specs.Batch.{change_to}
 use Rattle.wp_model.specs.Flushed.{InstalledEdit, later_versions}
 use Rattle.wp_model.specs.Changed.{conflict, IsUnchanged}
 use Rattle.wp_model.specs.History.{entry_at, name_at, batch_at, is_undecided, undecided, is_changed, named, value_at}
+use Rattle.wp_model.specs.Rows.{rows}
 use Rattle.wp_cuts.specs.Cut.{carried_of}
 use Rattle.wp_cuts.specs.Kept.{carried_versions, HasKeysAt}
 use Rattle.wp_text.specs.declared.script.Command.{Command}
@@ -102,11 +103,18 @@ refuses_label snapshots label =
     if is_some (number_of snapshots label) then Some (reply.Taken label)
     else (if nat_le MOST_SNAPSHOTS (length snapshots) then Some reply.TooMany else None)
 
+-- a scan has no place beside a transaction
+abbrev pub refuses_scan : Txn → Option ℕ → List ℕ → Option Reply
+refuses_scan Idle number label = unless_labelled number label
+refuses_scan other number label = Some reply.State
+
 abbrev pub refusal_of : Client → Command → Option Reply
 refusal_of client (command.Put key value) = refuses_change client.txn key
 refusal_of client (command.Del key) = refuses_change client.txn key
 refusal_of client (command.Get key) = None
 refusal_of client (command.GetAt key label) = unless_labelled (number_of client.snapshots label) label
+refusal_of client (command.Scan from to) = unless_idle client.txn
+refusal_of client (command.ScanAt from to label) = refuses_scan client.txn (number_of client.snapshots label) label
 refusal_of client (command.Snap label) = refuses_label client.snapshots label
 refusal_of client (command.Free label) = unless_labelled (number_of client.snapshots label) label
 refusal_of client (command.Begin name) = unless_idle client.txn
@@ -368,6 +376,8 @@ Condition evidence progress client p (command.Get key) (reply.GotOwn value) = Ow
 Condition evidence progress client p (command.Get key) reply.MissingOwn = OwnSays evidence.history client.txn key (Some None)
 Condition evidence progress client p (command.GetAt key label) (reply.Got value n) = IsSnapshot evidence.history client label n × (value_at evidence.history key n ≡ Some value)
 Condition evidence progress client p (command.GetAt key label) (reply.Missing n) = IsSnapshot evidence.history client label n × (value_at evidence.history key n ≡ None)
+Condition evidence progress client p (command.Scan from to) (reply.Rows pairs n) = (client.txn ≡ Idle) × IsFresh evidence.history progress.last n × (pairs ≡ rows evidence.history from to n)
+Condition evidence progress client p (command.ScanAt from to label) (reply.Rows pairs n) = (client.txn ≡ Idle) × IsSnapshot evidence.history client label n × (pairs ≡ rows evidence.history from to n)
 Condition evidence progress client p (command.Snap label) (reply.Snapped n) = IsFresh evidence.history progress.last n
 Condition evidence progress client p (command.Free label) reply.Freed = Unit {0}
 Condition evidence progress client p (command.Begin name) reply.Begun = Unit {0}

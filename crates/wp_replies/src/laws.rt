@@ -19,8 +19,9 @@ pub fn due_is_session()
     ensures { DueIsSession }
 {}
 
-/// The value that a `get` is answered is what the entries up to the reply's number leave under the key. That number is
-/// nothing that the client has seen pass, and with a label it is the snapshot's.
+/// The value that a `get` is answered is what the entries up to the reply's number leave under the key, and the rows of
+/// a `scan` are what they leave under the keys of its range. That number is nothing that the client has seen pass, and
+/// with a label it is the snapshot's.
 pub fn reads_are_values()
     ensures { ReadsAreValues }
 {}

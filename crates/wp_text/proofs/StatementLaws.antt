@@ -19,7 +19,7 @@ use Rattle.wp_text.specs.declared.script.Command.TheVariants as command
 use Rattle.wp_text.specs.Grammar.{command_words, statement_words, is_command_in_range, is_in_range, is_passed_over, Say}
 use Rattle.wp_text.specs.Faults.{IsNoStatement, IsOutOfRange, AreWrong}
 use Rattle.wp_fields.specs.Reading.{◌>>=◌}
-use Rattle.wp_text.specs.Reading.{keyword_text, keyword_named, one_word, two_words, alone, get_with, statement_with, statement_named, statement_of}
+use Rattle.wp_text.specs.Reading.{keyword_text, keyword_named, one_word, two_words, alone, get_with, scan_with, statement_with, statement_named, statement_of}
 use Rattle.wp_fields.proofs.Results.{bind_ok, bind_err, chosen, failed, ok_is, err_is, ok_or_err, either}
 
 -- ---- a statement's words are read as it, or are out of range
@@ -29,13 +29,20 @@ tested : {A : Type 0} (b : Bool) (x : A) (f : A → Statement) → ((if b then O
 tested true x f = refl
 tested false x f = refl
 
+tested_twice : {A B : Type 0} (b c : Bool) (x : A) (y : B) (f : A → B → Statement) → ((if b then Ok x else Err BadWord) >>= λ a. (if c then Ok y else Err BadWord) >>= λ w. Ok (f a w)) >>= (λ s. Ok (Some s)) ≡ cond (b && c) (Ok (Some (f x y))) (Err BadWord)
+tested_twice true true x y f = refl
+tested_twice true false x y f = refl
+tested_twice false c x y f = refl
+
 words_again : (s : Statement) → statement_of (statement_words s) ≡ cond (is_in_range s) (Ok (Some s)) (Err BadWord)
-unfolding statement_of statement_named keyword_named statement_with alone get_with one_word two_words
+unfolding statement_of statement_named keyword_named statement_with alone get_with scan_with one_word two_words
 words_again (statement.Client name) = tested (is_name name) name (λ w. statement.Client w)
 words_again (statement.Command (command.Put key value)) = tested (is_key key && is_value value) (key, value) (λ both. statement.Command (command.Put both.0 both.1))
 words_again (statement.Command (command.Del key)) = tested (is_key key) key (λ w. statement.Command (command.Del w))
 words_again (statement.Command (command.Get key)) = tested (is_key key) key (λ w. statement.Command (command.Get w))
 words_again (statement.Command (command.GetAt key name)) = tested (is_key key && is_name name) (key, name) (λ both. statement.Command (command.GetAt both.0 both.1))
+words_again (statement.Command (command.Scan from to)) = tested (is_key from && is_key to) (from, to) (λ both. statement.Command (command.Scan both.0 both.1))
+words_again (statement.Command (command.ScanAt from to name)) = tested_twice (is_key from && is_key to) (is_name name) (from, to) name (λ both label. statement.Command (command.ScanAt both.0 both.1 label))
 words_again (statement.Command (command.Snap name)) = tested (is_name name) name (λ w. statement.Command (command.Snap w))
 words_again (statement.Command (command.Free name)) = tested (is_name name) name (λ w. statement.Command (command.Free w))
 words_again (statement.Command (command.Begin name)) = tested (is_name name) name (λ w. statement.Command (command.Begin w))
@@ -175,12 +182,56 @@ unfolding get_with
 get_read (key ∷ at ∷ name ∷ []) = get_at_read key at name
 get_read words = one_word_read MOST_KEY_BYTES (codes "get") (λ w. statement.Command (command.Get w)) (λ w. (refl, refl)) words
 
+-- two keys, the word `at` and a name
+module _ (from to at name : List ℕ) (is : at ≡ codes "at") where
+  abbrev scanned : Statement
+  scanned = statement.Command (command.ScanAt from to name)
+
+  abbrev all : List (List ℕ)
+  all = codes "scan" ∷ from ∷ to ∷ at ∷ name ∷ []
+
+  written : all ≡ statement_words scanned
+  written = ap (λ (word : List ℕ). codes "scan" ∷ from ∷ to ∷ word ∷ name ∷ []) is
+
+  abbrev scan_words : Bool → Bool → Result Statement Why
+  scan_words b c =
+      let keys : Result (List ℕ × List ℕ) Why = if b then Ok (from, to) else Err BadWord in
+      keys >>= λ both. (if c then Ok name else Err BadWord) >>= λ label. Ok (statement.Command (command.ScanAt both.0 both.1 label))
+
+  scan_tested : (b c : Bool) → (is_key from && is_key to) ≡ b → is_name name ≡ c → ReadsStatement all (scan_words b c)
+  scan_tested true true keys label = record {
+    takes = λ s e. subst (λ (x : Statement). Written all x) (ok_is scanned s e) (written, (λ i. keys i && label i));
+    fails = λ why e. absurd (ok_or_err scanned why e);
+  }
+  scan_tested true false keys label = record {
+    takes = λ s e. absurd cc;
+    fails = λ why e. inr (cc, record { statement = scanned; written = written; range = λ i. keys i && label i });
+  }
+  scan_tested false c keys label = record {
+    takes = λ s e. absurd cc;
+    fails = λ why e. inr (cc, record { statement = scanned; written = written; range = λ i. keys i && is_name name });
+  }
+
+scan_at_read : (from to at name : List ℕ) → ReadsStatement (codes "scan" ∷ from ∷ to ∷ at ∷ name ∷ []) (scan_with (from ∷ to ∷ at ∷ name ∷ []))
+unfolding scan_with one_word two_words
+scan_at_read from to at name =
+    elim (either (bytes_eq at (codes "at"))) [
+      | inl so ↦ rw so (scan_tested from to at name (same_text at (codes "at") (sym so)) (is_key from && is_key to) (is_name name) refl refl)
+      | inr other ↦ rw other (record { takes = λ s e. absurd cc; fails = λ why e. inl cc })
+    ]
+
+scan_read : (words : List (List ℕ)) → ReadsStatement (codes "scan" ∷ words) (scan_with words)
+unfolding scan_with
+scan_read (from ∷ to ∷ at ∷ name ∷ []) = scan_at_read from to at name
+scan_read words = two_words_read MOST_KEY_BYTES MOST_KEY_BYTES (codes "scan" ∷ words) words (λ a b. statement.Command (command.Scan a b)) (λ a b e. (ap (λ (x : List (List ℕ)). codes "scan" ∷ x) e, refl))
+
 after_keyword : (k : Keyword) (words : List (List ℕ)) → ReadsStatement (keyword_text k ∷ words) (statement_with k words)
 unfolding statement_with
 after_keyword (keyword.Named named.Client) words = one_word_read MOST_NAME_BYTES (keyword_text (keyword.Named named.Client)) (λ w. statement.Client w) (λ w. (refl, refl)) words
 after_keyword keyword.Put words = two_words_read MOST_KEY_BYTES MOST_VALUE_BYTES (keyword_text keyword.Put ∷ words) words (λ a b. statement.Command (command.Put a b)) (λ a b e. (ap (λ (x : List (List ℕ)). keyword_text keyword.Put ∷ x) e, refl))
 after_keyword keyword.Del words = one_word_read MOST_KEY_BYTES (keyword_text keyword.Del) (λ w. statement.Command (command.Del w)) (λ w. (refl, refl)) words
 after_keyword keyword.Get words = get_read words
+after_keyword keyword.Scan words = scan_read words
 after_keyword (keyword.Named named.Snap) words = one_word_read MOST_NAME_BYTES (keyword_text (keyword.Named named.Snap)) (λ w. statement.Command (command.Snap w)) (λ w. (refl, refl)) words
 after_keyword (keyword.Named named.Free) words = one_word_read MOST_NAME_BYTES (keyword_text (keyword.Named named.Free)) (λ w. statement.Command (command.Free w)) (λ w. (refl, refl)) words
 after_keyword (keyword.Named named.Begin) words = one_word_read MOST_NAME_BYTES (keyword_text (keyword.Named named.Begin)) (λ w. statement.Command (command.Begin w)) (λ w. (refl, refl)) words

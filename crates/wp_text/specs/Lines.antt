@@ -8,6 +8,7 @@ use Rattle.wp_model.specs.declared.entry.Entry.{Entry}
 use Rattle.wp_model.specs.declared.entry.Entry.TheVariants as entry
 use Rattle.wp_model.specs.declared.holder.Holder.{Holder}
 use Rattle.wp_model.specs.declared.holder.Holder.TheVariants as holder
+use Rattle.wp_model.specs.Rows.{Pair}
 use Rattle.wp_text.specs.declared.reply.Reply.{Reply}
 use Rattle.wp_text.specs.declared.reply.Reply.TheVariants as reply
 
@@ -30,6 +31,13 @@ abbrev pub holder_words : Holder → List ℕ
 holder_words (holder.Txn name) = codes "txn " ++ name
 holder_words (holder.Client name) = codes "client " ++ name
 
+-- a key with its value, after what comes before it in its line
+abbrev pub row_words : Pair → List ℕ
+row_words pair = codes " " ++ pair.0 ++ codes " " ++ pair.1
+
+abbrev pub rows_words : List Pair → List ℕ
+rows_words pairs = flat_map row_words pairs
+
 abbrev pub reply_words : Reply → List ℕ
 reply_words (reply.Put n) = codes "put " ++ numbered n
 reply_words (reply.Del n) = codes "del " ++ numbered n
@@ -38,6 +46,7 @@ reply_words (reply.Got value n) = codes "get " ++ value ++ codes " " ++ numbered
 reply_words (reply.Missing n) = codes "missing " ++ numbered n
 reply_words (reply.GotOwn value) = codes "get " ++ value ++ codes " own"
 reply_words reply.MissingOwn = codes "missing own"
+reply_words (reply.Rows pairs n) = codes "rows " ++ numbered n ++ rows_words pairs
 reply_words (reply.Pinned n) = codes "pinned " ++ numbered n
 reply_words (reply.Snapped n) = codes "snap " ++ numbered n
 reply_words reply.Freed = codes "freed"

@@ -59,6 +59,7 @@ keyword_text (keyword.Bare word) = bare_text word
 keyword_text keyword.Put = codes "put"
 keyword_text keyword.Del = codes "del"
 keyword_text keyword.Get = codes "get"
+keyword_text keyword.Scan = codes "scan"
 keyword_text keyword.Lock = codes "lock"
 
 unfoldable pub keyword_named : List ℕ → Option Keyword
@@ -83,6 +84,14 @@ alone command (word ∷ words) = Err BadCommand
 unfoldable pub get_with : List (List ℕ) → Result Statement Why
 get_with (key ∷ at ∷ name ∷ []) = if bytes_eq at (codes "at") then (two_words MOST_KEY_BYTES MOST_NAME_BYTES (key ∷ name ∷ []) >>= λ both. Ok (statement.Command (command.GetAt both.0 both.1))) else Err BadCommand
 get_with words = one_word MOST_KEY_BYTES words >>= λ key. Ok (statement.Command (command.Get key))
+
+-- what reads a range of keys: at a snapshot, or as it is now
+unfoldable pub scan_with : List (List ℕ) → Result Statement Why
+scan_with (from ∷ to ∷ at ∷ name ∷ []) =
+    if bytes_eq at (codes "at")
+    then (two_words MOST_KEY_BYTES MOST_KEY_BYTES (from ∷ to ∷ []) >>= λ both. one_word MOST_NAME_BYTES (name ∷ []) >>= λ label. Ok (statement.Command (command.ScanAt both.0 both.1 label)))
+    else Err BadCommand
+scan_with words = two_words MOST_KEY_BYTES MOST_KEY_BYTES words >>= λ both. Ok (statement.Command (command.Scan both.0 both.1))
 
 -- what is said of a name
 abbrev pub said_of : Named → List ℕ → Statement
@@ -118,6 +127,7 @@ statement_with keyword.Del words = do
   key ← one_word MOST_KEY_BYTES words
   Ok (statement.Command (command.Del key))
 statement_with keyword.Get words = get_with words
+statement_with keyword.Scan words = scan_with words
 statement_with keyword.Lock words = do
   key ← one_word MOST_KEY_BYTES words
   Ok (statement.Command (command.Lock key))

@@ -34,14 +34,16 @@ pub(crate) enum Keyword {
     Put,
     Del,
     Get,
+    Scan,
     Lock,
 }
 
-const KEYWORDS: [Keyword; 19] = [
+const KEYWORDS: [Keyword; 20] = [
     Keyword::Named(Named::Client),
     Keyword::Put,
     Keyword::Del,
     Keyword::Get,
+    Keyword::Scan,
     Keyword::Named(Named::Snap),
     Keyword::Named(Named::Free),
     Keyword::Named(Named::Begin),
@@ -102,6 +104,7 @@ impl Keyword {
             Keyword::Put => b"put",
             Keyword::Del => b"del",
             Keyword::Get => b"get",
+            Keyword::Scan => b"scan",
             Keyword::Lock => b"lock",
         }
     }

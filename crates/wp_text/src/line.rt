@@ -3,7 +3,7 @@ ghost use Rattle.std.specs.List.{list_all};
 ghost use Rattle.wp_fields.specs.Reading.{Gives};
 ghost use Rattle.wp_text.specs.declared.keyword.Keyword.TheVariants as keyword;
 ghost use Rattle.wp_text.specs.Grammar.{is_line_byte, words_of};
-ghost use Rattle.wp_text.specs.Reading.{line_fault, one_word, two_words, alone, bare_command, get_with, said_of, statement_with, statement_of, line_of};
+ghost use Rattle.wp_text.specs.Reading.{line_fault, one_word, two_words, alone, bare_command, get_with, scan_with, said_of, statement_with, statement_of, line_of};
 
 use crate::fault::{LineError, Why};
 use crate::keyword::{Bare, Keyword, Named};
@@ -91,6 +91,35 @@ fn get_with(alloc: Global, words: &[&[u8]]) -> Result<Statement, LineError>
     }
 }
 
+#[tactic(auto, unfolding(crate::specs::Reading::scan_with))]
+fn scan_at(
+    alloc: Global,
+    from: &[u8],
+    to: &[u8],
+    at: &[u8],
+    name: &[u8],
+) -> Result<Statement, LineError>
+    ensures { Gives line_fault (λ s. s) result (scan_with (from.now ∷ to.now ∷ at.now ∷ name.now ∷ [])) }
+{
+    if at != b"at".as_slice() {
+        return Err(LineError::Wrong(Why::BadCommand));
+    }
+    let (from, to) = two_words(alloc, &[from, to])?;
+    let name = one_word(alloc, &[name])?;
+    Ok(Statement::Command(Command::ScanAt(from, to, name)))
+}
+
+#[tactic(auto, unfolding(crate::specs::Reading::scan_with))]
+fn scan_with(alloc: Global, words: &[&[u8]]) -> Result<Statement, LineError>
+    ensures { Gives line_fault (λ s. s) result (scan_with (map (λ word. word.now) words.now)) }
+{
+    if let [from, to, at, name] = words {
+        return scan_at(alloc, from, to, at, name);
+    }
+    let (from, to) = two_words(alloc, words)?;
+    Ok(Statement::Command(Command::Scan(from, to)))
+}
+
 #[tactic(auto, unfolding(crate::specs::Reading::statement_with))]
 fn put_with(alloc: Global, words: &[&[u8]]) -> Result<Statement, LineError>
     ensures { Gives line_fault (λ s. s) result (statement_with keyword.Put (map (λ word. word.now) words.now)) }
@@ -138,6 +167,7 @@ fn statement_with(alloc: Global, keyword: Keyword, words: &[&[u8]]) -> Result<St
         Keyword::Put => put_with(alloc, words),
         Keyword::Del => Ok(Statement::Command(Command::Del(one_word(alloc, words)?))),
         Keyword::Get => get_with(alloc, words),
+        Keyword::Scan => scan_with(alloc, words),
         Keyword::Lock => Ok(Statement::Command(Command::Lock(one_word(alloc, words)?))),
     }
 }

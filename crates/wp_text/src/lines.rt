@@ -2,6 +2,7 @@ ghost use Rattle.std.specs.Prelude.{◌≡◌, ◌++◌, OnOk, codes, decimal};
 ghost use Rattle.wp_text.specs.Lines as text;
 ghost use Rattle.wp_text.specs.Said.{said};
 
+use crate::pairs::Pairs;
 use crate::reply::Reply;
 use std::alloc::{AllocError, Global};
 use wp_model::{Batch, Carried, Change, Entry, Holder, Key, Name, Seq, Value, Word};
@@ -68,6 +69,23 @@ fn push_holder(out: &mut Vec<u8>, holder: &Holder) -> Result<(), AllocError>
     }
 }
 
+fn push_row(out: &mut Vec<u8>, row: &(Key, Value)) -> Result<(), AllocError>
+    ensures { OnOk result (out.new.items ≡ out.old.items ++ text.row_words row.now) }
+{
+    let (key, value) = row;
+    push_with_word(out, b" ", key)?;
+    push_with_word(out, b" ", value)
+}
+
+fn push_rows(out: &mut Vec<u8>, pairs: &Pairs) -> Result<(), AllocError>
+    ensures { OnOk result (out.new.items ≡ out.old.items ++ text.rows_words pairs.now) }
+{
+    for row in pairs.as_slice() {
+        push_row(out, row)?;
+    }
+    Ok(())
+}
+
 /// What a reply says.
 #[derive(Drop)]
 pub(crate) enum Words<'a> {
@@ -85,6 +103,8 @@ pub(crate) enum Words<'a> {
     Own(&'a [u8]),
     /// Who holds a key.
     Busy(&'a Holder),
+    /// Keys with their values, at a number.
+    Rows(&'a Pairs, Seq),
 }
 
 fn words_of(reply: &Reply) -> Words<'_>
@@ -98,6 +118,7 @@ fn words_of(reply: &Reply) -> Words<'_>
         Reply::Missing(n) => Words::Number(b"missing @", *n),
         Reply::GotOwn(value) => Words::Own(value.bytes()),
         Reply::MissingOwn => Words::Text(b"missing own"),
+        Reply::Rows(pairs, n) => Words::Rows(pairs, *n),
         Reply::Pinned(n) => Words::Number(b"pinned @", *n),
         Reply::Snapped(n) => Words::Number(b"snap @", *n),
         Reply::Freed => Words::Text(b"freed"),
@@ -147,6 +168,10 @@ fn push_words(out: &mut Vec<u8>, words: Words<'_>) -> Result<(), AllocError>
         Words::Busy(holder) => {
             out.extend_from_slice(b"busy ")?;
             push_holder(out, holder)
+        }
+        Words::Rows(pairs, n) => {
+            push_with_number(out, b"rows @", n)?;
+            push_rows(out, pairs)
         }
     }
 }

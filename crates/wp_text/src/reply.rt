@@ -1,3 +1,4 @@
+use crate::pairs::Pairs;
 use wp_model::{Holder, Name, Seq, Value};
 
 /// What a client is answered for one command. Each number is that of an entry of the one history, 0 before the first.
@@ -9,7 +10,7 @@ pub enum Reply {
     Del(Seq),
     /// The change is in the batch of the client's transaction.
     Held,
-    /// What is committed under the key at this number, and, where the key was to be locked, stays so until the decision.
+    /// What is committed under the key at this number, and, where the key was to be locked, stays so until the decision, in this run.
     Got(Value, Seq),
     /// Nothing is committed under the key at this number, likewise.
     Missing(Seq),
@@ -17,6 +18,8 @@ pub enum Reply {
     GotOwn(Value),
     /// The client's own transaction deletes the key.
     MissingOwn,
+    /// The keys of the range that have a value at this number, with these.
+    Rows(Pairs, Seq),
     /// The open transaction is pinned, at this number.
     Pinned(Seq),
     /// The snapshot is taken, at this number.

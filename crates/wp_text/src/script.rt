@@ -13,13 +13,17 @@ pub enum Command {
     Get(Key),
     /// Read the key at the client's snapshot of this label.
     GetAt(Key, Name),
+    /// Read each key that has a value, from the first to the second, which both belong to the range, at a fresh snapshot.
+    Scan(Key, Key),
+    /// The same at the client's snapshot of this label.
+    ScanAt(Key, Key, Name),
     /// Take a snapshot under this label.
     Snap(Name),
     /// Release the snapshot of this label.
     Free(Name),
     /// Begin a transaction of this name.
     Begin(Name),
-    /// Pin the number published: the open transaction commits only what nobody else has changed since.
+    /// Pin the number published: the open transaction commits only if nobody else changed any of its keys since.
     Pin,
     /// Lock the key for the open transaction, and read it as it is then.
     Lock(Key),

@@ -1,4 +1,4 @@
--- What a client is answered that is alone and reads a key, or that its own state refuses.
+-- What a client is answered that is alone and reads a key or a range, or that its own state refuses.
 use Rattle.std.proofs.Common.{◌≡◌, inl, ℕ, ◌≤◌, List, [], length, refl, sym, ap, ◌∙◌, append-nil, Option, Some, None, arith}
 use Rattle.wp_model.specs.declared.change.Change.{Change}
 use Rattle.wp_model.specs.declared.entry.Entry.{Entry}
@@ -6,6 +6,7 @@ use Rattle.wp_model.specs.Batch.{change_to}
 use Rattle.wp_model.specs.Flushed.{InstalledEdit}
 use Rattle.wp_model.specs.History.{prepared_batch, batch_at, value_at}
 use Rattle.wp_model.specs.LockState.{Labels}
+use Rattle.wp_model.specs.Rows.{Pair, rows}
 use Rattle.wp_text.specs.declared.script.Command.{Command}
 use Rattle.wp_text.specs.declared.script.Command.TheVariants as command
 use Rattle.wp_text.specs.declared.reply.Reply.TheVariants as reply
@@ -14,10 +15,10 @@ use Rattle.wp_shared.specs.Seats.{SharedState, SeatState, Stands}
 use Rattle.wp_open_txns.specs.Calls.{Keeps}
 use Rattle.wp_open_txns.specs.Txn.{PreparedState, HasPrepared}
 use Rattle.wp_replies.specs.declared.client.LabelledSnapshot.{LabelledSnapshot}
-use Rattle.wp_replies.specs.Txn.{Txn}
+use Rattle.wp_replies.specs.Txn.{Txn, Idle}
 use Rattle.wp_replies.specs.Client.{Client, number_of, own_batch}
 use Rattle.wp_replies.specs.Due.{Store, due, board_after, client_after}
-use Rattle.wp_replies.specs.Plan.{read_reply, get_reply, get_at_reply}
+use Rattle.wp_replies.specs.Plan.{read_reply, get_reply, get_at_reply, rows_reply, scan_at_reply}
 use Rattle.wp_client.specs.Alone.{IsOnly, IsStoreOf, AnswersAlone}
 use Rattle.wp_client.proofs.Alone.Kept.{goes_still}
 use Rattle.wp_client.proofs.Alone.Seated.{none_quiet, follows_on, seen_still}
@@ -101,3 +102,33 @@ module _ {D : Type 0} (z : SharedState D) (first : InstalledEdit) (old new : Sea
     unknown_snapshot_alone same key label none =
         at_once z first old new only store is same client client (command.GetAt key label) (reply.UnknownSnapshot label) (record { logged = refl; fault = refl; installed = refl; tables = refl; board = λ b. refl })
         (inl (sym (ap (λ (o : Option ℕ). get_at_reply store.history o key label) none))) refl refl
+
+  -- ---- ranges, where no transaction is begun
+
+  module _ (snapshots : List LabelledSnapshot) where
+    abbrev idle : Client
+    idle = record { txn = Idle; snapshots = snapshots }
+
+    pub scanned_alone : (stood : (w : World) × Stands z new w) (from to : List ℕ) (pairs : List Pair) (at : ℕ) → Keeps z old new → length old.knows.participant.seen ≤ at → at ≤ length new.knows.participant.seen
+        → pairs ≡ rows new.knows.participant.seen from to at → AnswersAlone z first old new idle idle (command.Scan from to) (reply.Rows pairs at) store
+    scanned_alone stood from to pairs at keeps low high rows_are =
+        let f = follows_on _ z old new _ keeps [] refl (sym (append-nil old.knows.participant.past)) in
+        let seen = seen_still z first old new only store is stood [] f in
+        let now : length new.knows.participant.seen ≡ length store.history = ap (λ (h : List Entry). length h) seen in
+        let then : length store.history ≡ length old.knows.participant.seen = ap (λ (h : List Entry). length h) is.history in
+        let at_is : at ≡ length store.history = omega (arith, low, high, now, then) in
+        quiet_answers z first old new only store is stood [] f none_quiet idle idle (command.Scan from to) (reply.Rows pairs at) (record { logged = refl; fault = refl; installed = refl; tables = refl; board = λ b. refl })
+        (inl (ap (λ (ps : List Pair). reply.Rows ps at) rows_are ∙ ap (λ (x : List Entry × ℕ). rows_reply x.0 from to x.1) (λ i. (seen i, at_is i)))) refl (goes_still z old new _ keeps refl Idle store)
+
+    pub scanned_at_alone : (stood : (w : World) × Stands z new w) (from to label : List ℕ) (n : ℕ) → number_of snapshots label ≡ Some n → Keeps z old new → (pairs : List Pair) → pairs ≡ rows new.knows.participant.seen from to n
+        → AnswersAlone z first old new idle idle (command.ScanAt from to label) (reply.Rows pairs n) store
+    scanned_at_alone stood from to label n labelled keeps pairs rows_are =
+        let f = follows_on _ z old new _ keeps [] refl (sym (append-nil old.knows.participant.past)) in
+        let shown : pairs ≡ rows store.history from to n = rows_are ∙ ap (λ (h : List Entry). rows h from to n) (seen_still z first old new only store is stood [] f) in
+        quiet_answers z first old new only store is stood [] f none_quiet idle idle (command.ScanAt from to label) (reply.Rows pairs n) (record { logged = refl; fault = refl; installed = refl; tables = refl; board = λ b. refl })
+        (inl (ap (λ (ps : List Pair). reply.Rows ps n) shown ∙ sym (ap (λ (o : Option ℕ). scan_at_reply store.history o from to label) labelled))) refl (goes_still z old new _ keeps refl Idle store)
+
+    pub unknown_scan_alone : new ≡ old → (from to label : List ℕ) → number_of snapshots label ≡ None → AnswersAlone z first old new idle idle (command.ScanAt from to label) (reply.UnknownSnapshot label) store
+    unknown_scan_alone same from to label none =
+        at_once z first old new only store is same idle idle (command.ScanAt from to label) (reply.UnknownSnapshot label) (record { logged = refl; fault = refl; installed = refl; tables = refl; board = λ b. refl })
+        (inl (sym (ap (λ (o : Option ℕ). scan_at_reply store.history o from to label) none))) refl refl

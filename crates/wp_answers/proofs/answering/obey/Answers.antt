@@ -23,24 +23,46 @@ returns-in-Put-clause-err g c = rw (← c.held-in-Put.view_is)
 pub get-requires : goal.get-requires
 get-requires g c = (subst (Holds c.args.store.now c.args.seat.now) (sym c.held.view_is) c.requires).txn
 
+pub scan-requires : goal.scan-requires
+scan-requires g c = (subst (Holds c.args.store.now c.args.seat.now) (sym c.held-in-Scan.view_is) c.requires).txn
+
 pub returns-in-Get-clause-holds : goal.returns-in-Get-clause-holds
 returns-in-Get-clause-holds g c = rw (← c.held.view_is) (keeps_holds c.args.store.now c.args.seat.now c.get.new.seat c.get.ensures.goes_on (record { txn = c.held.inside.txn; snapshots = c.held.inside.snapshots.items }) (subst (Holds c.args.store.now c.args.seat.now) (sym c.held.view_is) c.requires))
+
+pub returns-in-Scan-clause-holds : goal.returns-in-Scan-clause-holds
+returns-in-Scan-clause-holds g c = rw (← c.held-in-Scan.view_is) (keeps_holds c.args.store.now c.args.seat.now c.scan.new.seat c.scan.ensures.goes_on (record { txn = c.held-in-Scan.inside.txn; snapshots = c.held-in-Scan.inside.snapshots.items }) (subst (Holds c.args.store.now c.args.seat.now) (sym c.held-in-Scan.view_is) c.requires))
 
 pub returns-in-Get-clause-answered : goal.returns-in-Get-clause-answered
 returns-in-Get-clause-answered g c = rw (c.in-Get.is, ← c.held.view_is)
     (whole_answers c.args.store.now c.args.seat.now c.get.new.seat (command.Get c.in-Get.key) c.get.result c.held.inside.txn c.held.inside.txn c.held.inside.snapshots.items c.get.ensures.answered)
 
+pub returns-in-Scan-clause-answered : goal.returns-in-Scan-clause-answered
+returns-in-Scan-clause-answered g c = rw (c.in-Scan.is, ← c.held-in-Scan.view_is)
+    (whole_answers c.args.store.now c.args.seat.now c.scan.new.seat (command.Scan c.in-Scan.from c.in-Scan.to) c.scan.result c.held-in-Scan.inside.txn c.held-in-Scan.inside.txn c.held-in-Scan.inside.snapshots.items c.scan.ensures.answered)
+
 pub returns-in-Get-clause-err : goal.returns-in-Get-clause-err
 returns-in-Get-clause-err g c = kept_breaks c.args.store.now c.args.seat.now c.get.new.seat c.args.command.now c.get.result (client_of c.args.held.now) c.get.ensures.goes_on
+
+pub returns-in-Scan-clause-err : goal.returns-in-Scan-clause-err
+returns-in-Scan-clause-err g c = kept_breaks c.args.store.now c.args.seat.now c.scan.new.seat c.args.command.now c.scan.result (client_of c.args.held.now) c.scan.ensures.goes_on
 
 pub returns-in-GetAt-clause-holds : goal.returns-in-GetAt-clause-holds
 returns-in-GetAt-clause-holds g c = keeps_holds c.args.store.now c.args.seat.now c.get_at.new.seat c.get_at.ensures.goes_on c.args.held.now c.requires
 
+pub returns-in-ScanAt-clause-holds : goal.returns-in-ScanAt-clause-holds
+returns-in-ScanAt-clause-holds g c = keeps_holds c.args.store.now c.args.seat.now c.scan_at.new.seat c.scan_at.ensures.goes_on c.args.held.now c.requires
+
 pub returns-in-GetAt-clause-answered : goal.returns-in-GetAt-clause-answered
 returns-in-GetAt-clause-answered g c = rw c.in-GetAt.is c.get_at.ensures.answered
 
+pub returns-in-ScanAt-clause-answered : goal.returns-in-ScanAt-clause-answered
+returns-in-ScanAt-clause-answered g c = rw c.in-ScanAt.is c.scan_at.ensures.answered
+
 pub returns-in-GetAt-clause-err : goal.returns-in-GetAt-clause-err
 returns-in-GetAt-clause-err g c = kept_breaks c.args.store.now c.args.seat.now c.get_at.new.seat c.args.command.now c.get_at.result (client_of c.args.held.now) c.get_at.ensures.goes_on
+
+pub returns-in-ScanAt-clause-err : goal.returns-in-ScanAt-clause-err
+returns-in-ScanAt-clause-err g c = kept_breaks c.args.store.now c.args.seat.now c.scan_at.new.seat c.args.command.now c.scan_at.result (client_of c.args.held.now) c.scan_at.ensures.goes_on
 
 pub returns-in-Snap-clause-answered : goal.returns-in-Snap-clause-answered
 returns-in-Snap-clause-answered g c = rw c.in-Snap.is c.snap.ensures.answered
@@ -138,8 +160,14 @@ returns-in-Begin-clause-uncalled g c = rw (← c.held-in-Begin.view_is) c.change
 pub returns-in-Get-clause-uncalled : goal.returns-in-Get-clause-uncalled
 returns-in-Get-clause-uncalled g c = rw c.in-Get.is (if_broken c.get.result (inr tt))
 
+pub returns-in-Scan-clause-uncalled : goal.returns-in-Scan-clause-uncalled
+returns-in-Scan-clause-uncalled g c = rw c.in-Scan.is (if_broken c.scan.result (inr tt))
+
 pub returns-in-GetAt-clause-uncalled : goal.returns-in-GetAt-clause-uncalled
 returns-in-GetAt-clause-uncalled g c = rw c.in-GetAt.is (if_broken c.get_at.result (inr tt))
+
+pub returns-in-ScanAt-clause-uncalled : goal.returns-in-ScanAt-clause-uncalled
+returns-in-ScanAt-clause-uncalled g c = rw c.in-ScanAt.is (if_broken c.scan_at.result (inr tt))
 
 pub returns-in-Snap-clause-uncalled : goal.returns-in-Snap-clause-uncalled
 returns-in-Snap-clause-uncalled g c = rw c.in-Snap.is (if_broken c.snap.result (inr tt))
