@@ -22,7 +22,7 @@ one_read count i base last carried bytes next rest total lt read so_far =
     sym step ∙ so_far
 
 -- a fault of the next prepare is the fault of all
-fails_as_well : {X Y : Type 0} (error : RecordError) (read : Result X RecordError) (total : Result Y RecordError) → Fails record_fault error read → (read ≡ Err error → total ≡ Err error) → Fails record_fault error total
+pub fails_as_well : {X Y : Type 0} (error : RecordError) (read : Result X RecordError) (total : Result Y RecordError) → Fails record_fault error read → (read ≡ Err error → total ≡ Err error) → Fails record_fault error total
 fails_as_well Memory read total f on = tt
 fails_as_well Short read total f on = on f
 fails_as_well (BadNumber found due) read total f on = on f

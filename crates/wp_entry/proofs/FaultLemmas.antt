@@ -1,8 +1,9 @@
 -- What is refused has the fault, and what has a fault is refused for it.
-use Rattle.std.proofs.Common.{◌≡◌, ℕ, zero, suc, ◌<◌, ◌≤◌, true, false, cond, leb, ltb, eqb, ◌||◌, List, [], ◌∷◌, ◌++◌, length, Result, Ok, Err, refl, sym, ap, subst, ◌∙◌, append_assoc, arith, inl, inr, ◌⊎◌}
+use Rattle.std.proofs.Common.{◌≡◌, ℕ, zero, suc, ◌+◌, ◌<◌, ◌≤◌, true, false, cond, leb, ltb, eqb, ◌||◌, List, [], ◌∷◌, ◌++◌, length, Result, Ok, Err, refl, sym, ap, subst, ◌∙◌, append_assoc, arith, inl, inr, ◌⊎◌}
 use Rattle.std.specs.Prelude.{IfErr, IfSome}
 use Rattle.std.specs.Global.{Vec}
 use Rattle.std.specs.Int.{byte_len, to_be_bytes}
+use Rattle.std.specs.List.{flat_map, AllByRecursion}
 use Rattle.std.proofs.lemmas.Bool.{eqb-true, eqb-false, ne_eqb, eq-eqb, lt-ltb, ltb-true, leb-true, leb-false, le-leb, lt-leb, or_left, or_right}
 use Rattle.wp_model.specs.declared.word.TheConstants.{MOST_NAME_BYTES}
 use Rattle.wp_model.specs.declared.entry.Entry.{Entry}
@@ -21,11 +22,11 @@ use Rattle.wp_encoding.proofs.ChangeLemmas.{batch_fails, batch_refused, no_memor
 use Rattle.wp_entry.specs.declared.error.RecordError.{RecordError}
 use Rattle.wp_entry.specs.declared.error.RecordError.TheVariants.{Memory, Short, BadNumber, BadKind, BadWord, Extra}
 use Rattle.wp_entry.specs.Errors.{record_error, record_fault}
-use Rattle.wp_entry.specs.Faults.{HasNumberField, HasDue, IsEarlierFault, IsEntriesFault, write_batch, prepare_name, prepare_batch, commit_number, no_number_for_close, undo_number, undo_batch, IsFaultAfterKind, HasMore, IsRecordFault}
-use Rattle.wp_entry.specs.Record.{last_number, entries_bytes, record_bytes}
-use Rattle.wp_entry.specs.Reading.{name_in_record, batch_in_record, after_number, write_at, prepare_at, earlier_at, commit_at, rollback_at, entries_at, record_at}
-use Rattle.wp_entry.proofs.Grammar.{Entries, name_takes, earlier_takes, entries_take, number_takes_due, this_kind, another, kind_by_test, at_end, entries_to_end, kind_and_entries, last_fits}
-use Rattle.wp_entry.proofs.Spelled.{record_after_number, earlier_again, entries_again}
+use Rattle.wp_entry.specs.Faults.{HasNumberField, HasDue, IsEarlierFault, IsEntriesFault, write_batch, prepare_name, prepare_batch, commit_number, no_number_for_close, undo_number, undo_batch, no_count, count_out, group_number, IsCountOut, IsFaultInGroup, IsNoKind, IsFaultAfterKind, HasMore, IsRecordFault}
+use Rattle.wp_entry.specs.Record.{last_number, named_bytes, entries_bytes, record_bytes, NamesEarlier, AreCommits}
+use Rattle.wp_entry.specs.Reading.{name_in_record, batch_in_record, after_number, write_at, prepare_at, earlier_at, commit_at, rollback_at, commits_after, count_at, group_at, entries_at, record_at}
+use Rattle.wp_entry.proofs.Grammar.{Entries, name_takes, earlier_takes, commits_behind, count_in_range, count_takes, commits_counted, entries_take, number_takes_due, this_kind, another, kind_by_test, at_end, entries_to_end, kind_and_entries, last_fits}
+use Rattle.wp_entry.proofs.Spelled.{record_after_number, earlier_again, count_again, entries_again}
 
 -- ---- what is refused has the fault
 
@@ -130,24 +131,87 @@ rollback_fails format due kind bytes fault h is e =
           ]
     ]
 
+commits_fail : (count : ℕ) (format : Format) (due : ℕ) (commits : List Entry) (bytes : List ℕ) (fault : RecordError) → AreBytes bytes → commits_after count format due commits bytes ≡ Err fault → IsNamed (IsFaultInGroup format due count bytes) fault
+unfolding commits_after
+commits_fail zero format due commits bytes fault h e = absurd (ok_or_err (commits, bytes) fault e)
+commits_fail (suc count) format due commits bytes fault h e =
+    elim (bind_err (earlier_at format due bytes) (commits_behind count format due commits) fault e) [
+      | inl wrong ↦
+          let p = earlier_fails format due bytes fault h wrong in
+          record { field_fault = p.field_fault; named = p.named; wrong = record { commits = []; rest = bytes; parts = refl; are = tt; earlier = tt; fewer = omega arith; wrong = p.wrong } }
+      | inr there ↦
+          let p = earlier_takes format due bytes there.0 h there.1 in
+          let after = commits_fail count format due (commits ++ Commit there.0.0 ∷ []) there.0.1 fault p.0.rest_bytes there.2 in
+          let rest = after.wrong in
+          let number = to_be_bytes (number_width format) there.0.0 in
+          record {
+            field_fault = after.field_fault;
+            named = after.named;
+            wrong = record {
+              commits = Commit there.0.0 ∷ rest.commits;
+              rest = rest.rest;
+              parts = p.0.parts ∙ ap (λ (t : List ℕ). number ++ t) rest.parts ∙ sym (append_assoc number (flat_map (named_bytes format) rest.commits) rest.rest);
+              are = rest.are;
+              earlier = (p.1, rest.earlier);
+              fewer = omega (arith, rest.fewer);
+              wrong = rest.wrong;
+            };
+          }
+    ]
+
+-- the tests of a count that is out of range, as they went
+out_by_test : (format : Format) (due count : ℕ) → (ltb count 2 || ltb 16 count || ltb (last_number format + 1) (due + count)) ≡ true → IsCountOut format due count
+out_by_test format due count out =
+    elim (either (ltb count 2)) [
+      | inl few ↦ inl (ltb-true count 2 few)
+      | inr some ↦ elim (either (ltb 16 count)) [
+        | inl many ↦ inr (inl (ltb-true 16 count many))
+        | inr not_many ↦ inr (inr (ltb-true (last_number format + 1) (due + count) (rw (some, not_many) at out)))
+      ]
+    ]
+
+group_fails : (format : Format) (due kind : ℕ) (bytes : List ℕ) (fault : RecordError) → AreBytes bytes → kind ≡ 6 → group_at format due bytes ≡ Err fault → IsNamed (IsEntriesFault format due kind bytes) fault
+unfolding group_at count_at
+group_fails format due kind bytes fault h is e =
+    elim (bind_err (count_at format due bytes) (commits_counted format due) fault e) [
+      | inl wrong ↦ elim (bind_err (byte_at Short bytes) (count_in_range format due) fault wrong) [
+        | inl short ↦
+            let ended = byte_fails Short bytes fault short in
+            record { field_fault = encoding_error.Short; named = ended.1; wrong = no_count is ended.0 refl }
+        | inr there ↦
+            let count = byte_takes Short bytes there.0 h there.1 in
+            elim (chosen (ltb there.0.0 2 || ltb 16 there.0.0 || ltb (last_number format + 1) (due + there.0.0)) (Err BadWord) (Ok there.0) (Err fault) there.2) [
+              | inl out ↦ record { field_fault = encoding_error.Word; named = err_is {A = ℕ × List ℕ} BadWord fault out.1; wrong = count_out there.0.0 there.0.1 is count.parts (out_by_test format due there.0.0 out.0) refl }
+              | inr within ↦ absurd (ok_or_err there.0 fault within.1)
+            ]
+      ]
+      | inr there ↦
+          let count = count_takes format due bytes there.0 h there.1 in
+          let after = commits_fail there.0.0 format due [] there.0.1 fault count.0.rest_bytes there.2 in
+          record { field_fault = after.field_fault; named = after.named; wrong = group_number there.0.0 there.0.1 is count.0.parts count.1 after.wrong }
+    ]
+
 -- no kind, as the tests of it went
-unknown_kind : (kind : ℕ) → eqb kind 1 ≡ false → eqb kind 2 ≡ false → eqb kind 3 ≡ false → eqb kind 4 ≡ false → (kind ≡ 0) ⊎ (4 < kind)
-unknown_kind zero a b c d = inl refl
-unknown_kind (suc zero) a b c d = absurd cc
-unknown_kind (suc (suc zero)) a b c d = absurd cc
-unknown_kind (suc (suc (suc zero))) a b c d = absurd cc
-unknown_kind (suc (suc (suc (suc zero)))) a b c d = absurd cc
-unknown_kind (suc (suc (suc (suc (suc n))))) a b c d = inr (omega arith)
+unknown_kind : (kind : ℕ) → eqb kind 1 ≡ false → eqb kind 2 ≡ false → eqb kind 3 ≡ false → eqb kind 4 ≡ false → eqb kind 6 ≡ false → IsNoKind kind
+unknown_kind zero a b c d e = inl refl
+unknown_kind (suc zero) a b c d e = absurd cc
+unknown_kind (suc (suc zero)) a b c d e = absurd cc
+unknown_kind (suc (suc (suc zero))) a b c d e = absurd cc
+unknown_kind (suc (suc (suc (suc zero)))) a b c d e = absurd cc
+unknown_kind (suc (suc (suc (suc (suc zero))))) a b c d e = inr (inl refl)
+unknown_kind (suc (suc (suc (suc (suc (suc zero)))))) a b c d e = absurd cc
+unknown_kind (suc (suc (suc (suc (suc (suc (suc n))))))) a b c d e = inr (inr (omega arith))
 
 -- The kind is none, or the fault is that of a field after it.
 data FailsAtKind (format : Format) (due kind : ℕ) (bytes : List ℕ) (fault : RecordError) : Type 0 where
-  no_kind : (kind ≡ 0) ⊎ (4 < kind) → fault ≡ BadKind kind → FailsAtKind format due kind bytes fault
+  no_kind : IsNoKind kind → fault ≡ BadKind kind → FailsAtKind format due kind bytes fault
   in_fields : IsNamed (IsEntriesFault format due kind bytes) fault → FailsAtKind format due kind bytes fault
 
 entries_fail : (format : Format) (due kind : ℕ) (bytes : List ℕ) (fault : RecordError) → AreBytes bytes → entries_at format due kind bytes ≡ Err fault → FailsAtKind format due kind bytes fault
 unfolding entries_at
 entries_fail format due kind bytes fault h e =
-    let rollback : Entries = cond (eqb kind 4) (rollback_at format due bytes) (Err (BadKind kind)) in
+    let group : Entries = cond (eqb kind 6) (group_at format due bytes) (Err (BadKind kind)) in
+    let rollback : Entries = cond (eqb kind 4) (rollback_at format due bytes) group in
     let commit : Entries = cond (eqb kind 3) (commit_at format due bytes) rollback in
     let prepare : Entries = cond (eqb kind 2) (prepare_at bytes) commit in
     elim (kind_by_test (eqb kind 1) kind 1 (write_at bytes) prepare (Err fault) refl e) [
@@ -156,9 +220,12 @@ entries_fail format due kind bytes fault h e =
         | this_kind is read ↦ in_fields (prepare_fails format due kind bytes fault h is read)
         | another not_prepare e ↦ elim (kind_by_test (eqb kind 3) kind 3 (commit_at format due bytes) rollback (Err fault) refl e) [
           | this_kind is read ↦ in_fields (commit_fails format due kind bytes fault h is read)
-          | another not_commit e ↦ elim (kind_by_test (eqb kind 4) kind 4 (rollback_at format due bytes) (Err (BadKind kind)) (Err fault) refl e) [
+          | another not_commit e ↦ elim (kind_by_test (eqb kind 4) kind 4 (rollback_at format due bytes) group (Err fault) refl e) [
             | this_kind is read ↦ in_fields (rollback_fails format due kind bytes fault h is read)
-            | another not_rollback e ↦ no_kind (unknown_kind kind not_write not_prepare not_commit not_rollback) (sym (err_is {A = List Entry × List ℕ} (BadKind kind) fault e))
+            | another not_rollback e ↦ elim (kind_by_test (eqb kind 6) kind 6 (group_at format due bytes) (Err (BadKind kind)) (Err fault) refl e) [
+              | this_kind is read ↦ in_fields (group_fails format due kind bytes fault h is read)
+              | another not_group e ↦ no_kind (unknown_kind kind not_write not_prepare not_commit not_rollback not_group) (sym (err_is {A = List Entry × List ℕ} (BadKind kind) fault e))
+            ]
           ]
         ]
       ]
@@ -172,6 +239,9 @@ no_memory_in_entries format due kind bytes (commit_number is wrong) = wrong
 no_memory_in_entries format due kind bytes (no_number_for_close is none same) = cc
 no_memory_in_entries format due kind bytes (undo_number is room wrong) = wrong
 no_memory_in_entries format due kind bytes (undo_batch p rest is room has earlier wrong) = no_memory_in_batch rest wrong
+no_memory_in_entries format due kind bytes (no_count is ended same) = cc
+no_memory_in_entries format due kind bytes (count_out count rest is there out same) = cc
+no_memory_in_entries format due kind bytes (group_number count rest is there counted wrong) = wrong.wrong
 
 after_kind_fault : (format : Format) (due kind : ℕ) (bytes rest : List ℕ) (fault : EncodingError) → HasDue format bytes due (kind ∷ rest) → IsEntriesFault format due kind rest fault → IsRecordFault format due bytes (record_error fault)
 after_kind_fault format due kind bytes rest encoding_error.Memory front wrong = absurd (no_memory_in_entries format due kind rest wrong)
@@ -256,8 +326,32 @@ earlier_refused format due bytes encoding_error.Word (p, (rest, has, out)) =
 earlier_refused format due bytes encoding_error.Memory wrong = absurd wrong
 earlier_refused format due bytes (encoding_error.Kind byte) wrong = absurd wrong
 
+count_refused : (format : Format) (due count : ℕ) (rest : List ℕ) → IsCountOut format due count → count_at format due (count ∷ rest) ≡ Err BadWord
+unfolding count_at
+count_refused format due count rest out =
+    let few = ltb count 2 in
+    let many = ltb 16 count in
+    let past = ltb (last_number format + 1) (due + count) in
+    let test : (few || many || past) ≡ true = elim out [
+      | inl under ↦ or_left (few || many) past (or_left few many (lt-ltb count 2 under))
+      | inr (inl over) ↦ or_left (few || many) past (or_right few many (lt-ltb 16 count over))
+      | inr (inr last) ↦ or_right (few || many) past (lt-ltb (last_number format + 1) (due + count) last)
+    ] in
+    rw test refl
+
+commits_refused : (more : List Entry) (count : ℕ) (format : Format) (due : ℕ) (commits : List Entry) (rest : List ℕ) (fault : EncodingError) → due ≤ last_number format → AreCommits more → AllByRecursion (NamesEarlier due) more → length more < count → IsEarlierFault format due rest fault → commits_after count format due commits (flat_map (named_bytes format) more ++ rest) ≡ Err (record_error fault)
+unfolding commits_after
+commits_refused more zero format due commits rest fault small are earlier fewer wrong = absurd (omega (arith, fewer))
+commits_refused [] (suc count) format due commits rest fault small are earlier fewer wrong = rw (earlier_refused format due rest fault wrong) refl
+commits_refused (Commit p ∷ more) (suc count) format due commits rest fault small are earlier fewer wrong =
+    let number = to_be_bytes (number_width format) p in
+    let regrouped : (number ++ flat_map (named_bytes format) more) ++ rest ≡ number ++ (flat_map (named_bytes format) more ++ rest) = append_assoc number (flat_map (named_bytes format) more) rest in
+    let others = commits_refused more count format due (commits ++ Commit p ∷ []) rest fault small are earlier.1 (omega (arith, fewer)) wrong in
+    ap (commits_after (suc count) format due commits) regrouped ∙ rw (earlier_again format due p (flat_map (named_bytes format) more ++ rest) small earlier.0) others
+commits_refused others (suc count) format due commits rest fault small are earlier fewer wrong = absurd are
+
 entries_refused : (format : Format) (due kind : ℕ) (bytes : List ℕ) (fault : EncodingError) → IsEntriesFault format due kind bytes fault → entries_at format due kind bytes ≡ Err (record_error fault)
-unfolding entries_at write_at prepare_at commit_at rollback_at
+unfolding entries_at write_at prepare_at commit_at rollback_at group_at count_at
 entries_refused format due kind bytes fault (write_batch is wrong) = rw (is, batch_refused bytes fault wrong) refl
 entries_refused format due kind bytes fault (prepare_name is wrong) = rw (is, word_refused MOST_NAME_BYTES bytes fault wrong) refl
 entries_refused format due kind bytes fault (prepare_batch name rest is has wrong) =
@@ -272,12 +366,18 @@ entries_refused format due kind bytes fault (undo_number is room wrong) =
 entries_refused format due kind bytes fault (undo_batch p rest is room has earlier wrong) =
     let few : leb (last_number format) due ≡ false = lt-leb _ _ room in
     ap (entries_at format due kind) has.parts ∙ rw (is, few, earlier_again format due p rest (omega (arith, room)) earlier, batch_refused rest fault wrong) refl
+entries_refused format due kind bytes fault (no_count is ended same) = rw (is, ended, same) refl
+entries_refused format due kind bytes fault (count_out count rest is there out same) = rw (is, there, same, count_refused format due count rest out) refl
+entries_refused format due kind bytes fault (group_number count rest is there counted wrong) =
+    let refused : commits_after count format due [] rest ≡ Err (record_error fault) = ap (commits_after count format due []) wrong.parts ∙ commits_refused wrong.commits count format due [] wrong.rest fault (omega (arith, counted.from, counted.numbered)) wrong.are wrong.earlier wrong.fewer wrong.wrong in
+    rw (is, there, count_again format due count rest counted, refused) refl
 
-kind_refused : (format : Format) (due kind : ℕ) (bytes : List ℕ) → (kind ≡ 0) ⊎ (4 < kind) → entries_at format due kind bytes ≡ Err (BadKind kind)
+kind_refused : (format : Format) (due kind : ℕ) (bytes : List ℕ) → IsNoKind kind → entries_at format due kind bytes ≡ Err (BadKind kind)
 unfolding entries_at
 kind_refused format due kind bytes (inl none) = rw none refl
-kind_refused format due kind bytes (inr large) =
-    rw (ne_eqb kind 1 (λ is. omega (arith, large, is)), ne_eqb kind 2 (λ is. omega (arith, large, is)), ne_eqb kind 3 (λ is. omega (arith, large, is)), ne_eqb kind 4 (λ is. omega (arith, large, is))) refl
+kind_refused format due kind bytes (inr (inl five)) = rw five refl
+kind_refused format due kind bytes (inr (inr large)) =
+    rw (ne_eqb kind 1 (λ is. omega (arith, large, is)), ne_eqb kind 2 (λ is. omega (arith, large, is)), ne_eqb kind 3 (λ is. omega (arith, large, is)), ne_eqb kind 4 (λ is. omega (arith, large, is)), ne_eqb kind 6 (λ is. omega (arith, large, is))) refl
 
 after_kind_refused : (format : Format) (due : ℕ) (bytes : List ℕ) (fault : EncodingError) → IsFaultAfterKind format due bytes fault → record_at format due bytes ≡ Err (record_error fault)
 after_kind_refused format due bytes fault is =

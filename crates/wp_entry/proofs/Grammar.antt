@@ -1,8 +1,9 @@
 -- What is read as a record is one, and the bytes are its spelling.
-use Rattle.std.proofs.Common.{◌≡◌, ℕ, zero, suc, ◌<◌, ◌≤◌, Bool, true, false, cond, leb, ltb, eqb, ◌||◌, List, [], ◌∷◌, ◌++◌, length, Result, Ok, Err, refl, subst, arith}
+use Rattle.std.proofs.Common.{◌≡◌, ℕ, zero, suc, ◌+◌, ◌<◌, ◌≤◌, Bool, true, false, cond, leb, ltb, eqb, ◌||◌, List, [], ◌∷◌, ◌++◌, length, Result, Ok, Err, refl, sym, ap, subst, ◌∙◌, append_assoc, arith}
 use Rattle.std.specs.Prelude.{IfOk}
 use Rattle.std.specs.Global.{Vec}
 use Rattle.std.specs.Int.{to_be_bytes}
+use Rattle.std.specs.List.{flat_map, list_all, AllByRecursion}
 use Rattle.std.proofs.lemmas.Bool.{eqb-true, eqb-false, leb-false, ltb-false, and_from, or_parts}
 use Rattle.std.proofs.lemmas.List.{append-nil, nil_from_length}
 use Rattle.wp_model.specs.declared.word.TheConstants.{MOST_NAME_BYTES}
@@ -23,8 +24,9 @@ use Rattle.wp_encoding.proofs.ChangeLemmas as encoded
 use Rattle.wp_entry.specs.declared.error.RecordError.{RecordError}
 use Rattle.wp_entry.specs.declared.error.RecordError.TheVariants.{Short, BadNumber, BadKind, BadWord, Extra}
 use Rattle.wp_entry.specs.Errors.{record_error, record_fault}
-use Rattle.wp_entry.specs.Record.{last_number, entries_bytes, record_bytes, IsEarlier, FormRecord, IsRecord}
-use Rattle.wp_entry.specs.Reading.{name_in_record, batch_in_record, after_number, write_at, prepare_at, earlier_at, commit_at, rollback_at, entries_at, record_at}
+use Rattle.wp_entry.specs.Record.{last_number, named_bytes, entries_bytes, record_bytes, is_entry, IsEarlier, NamesEarlier, AreCommits, FormRecord, IsRecord}
+use Rattle.wp_entry.specs.Faults.{IsCount}
+use Rattle.wp_entry.specs.Reading.{name_in_record, batch_in_record, after_number, write_at, prepare_at, earlier_at, commit_at, rollback_at, commits_after, count_at, group_at, entries_at, record_at}
 
 -- ---- names and batches
 
@@ -112,6 +114,87 @@ rollback_takes format first bytes x h e =
     let found : BeginsRecord format first (4 ∷ bytes) (Undo s.0.0 t.0.0 ∷ Close s.0.0 ∷ [], t.0.1) = record { parts = Begins-then (4 ∷ bytes) (4 ∷ []) bytes (to_be_bytes (number_width format) s.0.0 ++ batch_bytes t.0.0) t.0.1 (kind_begins 4 bytes h) both; is = record { form = record { one = refl; earlier = (p.1, (p.1, tt)); numbered = omega (arith, small) }; in_range = and_from _ _ batch.1 refl } } in
     rw (← ok_is {E = RecordError} (Undo s.0.0 t.0.0 ∷ Close s.0.0 ∷ [], t.0.1) x t.2) found
 
+-- so many Commits more were read
+pub record TakesCommits (format : Format) (due count : ℕ) (commits : List Entry) (bytes : List ℕ) (x : List Entry × List ℕ) : Type 0 where
+  pub more : List Entry
+  pub appended : x.0 ≡ commits ++ more
+  pub counted : length more ≡ count
+  pub parts : Begins bytes (flat_map (named_bytes format) more) x.1
+  pub are : AreCommits more
+  pub earlier : AllByRecursion (NamesEarlier due) more
+
+abbrev pub commits_behind : ℕ → Format → ℕ → List Entry → ℕ × List ℕ → Entries
+commits_behind count format due commits p = commits_after count format due (commits ++ Commit p.0 ∷ []) p.1
+
+pub commits_take : (count : ℕ) (format : Format) (due : ℕ) (commits : List Entry) (bytes : List ℕ) (x : List Entry × List ℕ) → AreBytes bytes → commits_after count format due commits bytes ≡ Ok x → TakesCommits format due count commits bytes x
+unfolding commits_after
+commits_take zero format due commits bytes x h e =
+    let all : TakesCommits format due 0 commits bytes (commits, bytes) = record { more = []; appended = sym (append-nil commits); counted = refl; parts = record { parts = refl; rest_bytes = h }; are = tt; earlier = tt } in
+    rw (← ok_is {E = RecordError} (commits, bytes) x e) all
+commits_take (suc count) format due commits bytes x h e =
+    let s = bind_ok (earlier_at format due bytes) (commits_behind count format due commits) x e in
+    let p = earlier_takes format due bytes s.0 h s.1 in
+    let rest = commits_take count format due (commits ++ Commit s.0.0 ∷ []) s.0.1 x p.0.rest_bytes s.2 in
+    record {
+      more = Commit s.0.0 ∷ rest.more;
+      appended = rest.appended ∙ append_assoc commits (Commit s.0.0 ∷ []) rest.more;
+      counted = ap suc rest.counted;
+      parts = Begins-then bytes (to_be_bytes (number_width format) s.0.0) s.0.1 (flat_map (named_bytes format) rest.more) x.1 p.0 rest.parts;
+      are = rest.are;
+      earlier = (p.1, rest.earlier);
+    }
+
+pub commits_in_range : (commits : List Entry) → AreCommits commits → list_all is_entry commits ≡ true
+commits_in_range [] are = refl
+commits_in_range (Commit p ∷ others) are = commits_in_range others are
+commits_in_range others are = absurd are
+
+-- They are a record, with a count before the numbers that they name.
+pub record IsGroup (format : Format) (first count : ℕ) (commits : List Entry) : Type 0 where
+  pub spelled : entries_bytes format commits ≡ 6 ∷ count ∷ flat_map (named_bytes format) commits
+  pub is : IsRecord format first commits
+
+pub commits_group : (format : Format) (first count : ℕ) (commits : List Entry) → IsCount format first count → length commits ≡ count → AreCommits commits → AllByRecursion (NamesEarlier first) commits → IsGroup format first count commits
+commits_group format first count (Commit p ∷ Commit q ∷ others) is counted are earlier =
+    let most = is.most in
+    let numbered = is.numbered in
+    record {
+      spelled = ap (λ (n : ℕ). 6 ∷ n ∷ flat_map (named_bytes format) (Commit p ∷ Commit q ∷ others)) counted;
+      is = record { form = record { one = (are, omega (arith, most, counted)); earlier = earlier; numbered = omega (arith, numbered, counted) }; in_range = commits_in_range others are };
+    }
+commits_group format first count (Commit p ∷ []) is counted are earlier = let from = is.from in absurd (omega (arith, from, counted))
+commits_group format first count [] is counted are earlier = let from = is.from in absurd (omega (arith, from, counted))
+commits_group format first count others is counted are earlier = absurd are
+
+abbrev pub count_in_range : Format → ℕ → ℕ × List ℕ → Result (ℕ × List ℕ) RecordError
+count_in_range format due count = cond (ltb count.0 2 || ltb 16 count.0 || ltb (last_number format + 1) (due + count.0)) (Err BadWord) (Ok count)
+
+pub count_takes : (format : Format) (due : ℕ) (bytes : List ℕ) (x : ℕ × List ℕ) → AreBytes bytes → count_at format due bytes ≡ Ok x → Begins bytes (x.0 ∷ []) x.1 × IsCount format due x.0
+unfolding count_at
+count_takes format due bytes x h e =
+    let s = bind_ok (byte_at Short bytes) (count_in_range format due) x e in
+    let count = byte_takes Short bytes s.0 h s.1 in
+    let t = refusal_missed (ltb s.0.0 2 || ltb 16 s.0.0 || ltb (last_number format + 1) (due + s.0.0)) BadWord (Ok s.0) x s.2 in
+    let range = or_parts _ _ t.0 in
+    let several = or_parts _ _ range.0 in
+    let found : Begins bytes (s.0.0 ∷ []) s.0.1 × IsCount format due s.0.0 = (count, record { from = ltb-false _ _ several.0; most = ltb-false _ _ several.1; numbered = ltb-false _ _ range.1 }) in
+    rw (← ok_is {E = RecordError} s.0 x t.1) found
+
+abbrev pub commits_counted : Format → ℕ → ℕ × List ℕ → Entries
+commits_counted format due count = commits_after count.0 format due [] count.1
+
+group_takes : (format : Format) (first : ℕ) (bytes : List ℕ) (x : List Entry × List ℕ) → AreBytes bytes → group_at format first bytes ≡ Ok x → BeginsRecord format first (6 ∷ bytes) x
+unfolding group_at
+group_takes format first bytes x h e =
+    let s = bind_ok (count_at format first bytes) (commits_counted format first) x e in
+    let count = count_takes format first bytes s.0 h s.1 in
+    let several = commits_take s.0.0 format first [] s.0.1 x count.0.rest_bytes s.2 in
+    let group = commits_group format first s.0.0 several.more count.1 several.counted several.are several.earlier in
+    let both = Begins-then bytes (s.0.0 ∷ []) s.0.1 (flat_map (named_bytes format) several.more) x.1 count.0 several.parts in
+    let whole = Begins-then (6 ∷ bytes) (6 ∷ []) bytes (s.0.0 ∷ flat_map (named_bytes format) several.more) x.1 (kind_begins 6 bytes h) both in
+    let found : BeginsRecord format first (6 ∷ bytes) (several.more, x.1) = record { parts = subst (λ (text : List ℕ). Begins (6 ∷ bytes) text x.1) (sym group.spelled) whole; is = group.is } in
+    subst (λ (entries : List Entry). BeginsRecord format first (6 ∷ bytes) (entries, x.1)) (sym several.appended) found
+
 -- The kind is this one, and the answer is its own, or it is another.
 pub data IsOfKind (kind this : ℕ) (read other answer : Entries) : Type 0 where
   this_kind : kind ≡ this → read ≡ answer → IsOfKind kind this read other answer
@@ -124,7 +207,8 @@ kind_by_test false kind this read other answer is e = another is e
 pub entries_take : (format : Format) (first kind : ℕ) (bytes : List ℕ) (x : List Entry × List ℕ) → first ≤ last_number format → AreBytes bytes → entries_at format first kind bytes ≡ Ok x → BeginsRecord format first (kind ∷ bytes) x
 unfolding entries_at
 entries_take format first kind bytes x small h e =
-    let rollback : Entries = cond (eqb kind 4) (rollback_at format first bytes) (Err (BadKind kind)) in
+    let group : Entries = cond (eqb kind 6) (group_at format first bytes) (Err (BadKind kind)) in
+    let rollback : Entries = cond (eqb kind 4) (rollback_at format first bytes) group in
     let commit : Entries = cond (eqb kind 3) (commit_at format first bytes) rollback in
     let prepare : Entries = cond (eqb kind 2) (prepare_at bytes) commit in
     elim (kind_by_test (eqb kind 1) kind 1 (write_at bytes) prepare (Ok x) refl e) [
@@ -133,9 +217,12 @@ entries_take format first kind bytes x small h e =
         | this_kind is read ↦ rw is (prepare_takes format first bytes x small h read)
         | another not_this e ↦ elim (kind_by_test (eqb kind 3) kind 3 (commit_at format first bytes) rollback (Ok x) refl e) [
           | this_kind is read ↦ rw is (commit_takes format first bytes x small h read)
-          | another not_this e ↦
-              let last = test_met (eqb kind 4) (BadKind kind) (rollback_at format first bytes) x e in
-              rw (eqb-true kind 4 last.0) (rollback_takes format first bytes x h last.1)
+          | another not_this e ↦ elim (kind_by_test (eqb kind 4) kind 4 (rollback_at format first bytes) group (Ok x) refl e) [
+            | this_kind is read ↦ rw is (rollback_takes format first bytes x h read)
+            | another not_this e ↦
+                let last = test_met (eqb kind 6) (BadKind kind) (group_at format first bytes) x e in
+                rw (eqb-true kind 6 last.0) (group_takes format first bytes x h last.1)
+          ]
         ]
       ]
     ]

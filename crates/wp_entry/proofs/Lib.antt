@@ -3,4 +3,5 @@ pub mod Spelled
 pub mod FaultLemmas
 mod BaseGrammar
 mod BaseFaultLemmas
-mod BaseLoop
+pub mod BaseLoop
+mod CommitsLoop

@@ -1,6 +1,7 @@
 -- Where in the bytes the first fault of a record is, and which it is.
-use Rattle.std.specs.Prelude.{◌≡◌, ◌≢◌, ℕ, ◌<◌, ◌≤◌, true, List, [], ◌∷◌, ◌++◌, length, ◌⊎◌}
+use Rattle.std.specs.Prelude.{◌≡◌, ◌≢◌, ℕ, ◌+◌, ◌<◌, ◌≤◌, true, List, [], ◌∷◌, ◌++◌, length, ◌⊎◌}
 use Rattle.std.specs.Int.{byte_len, to_be_bytes}
+use Rattle.std.specs.List.{flat_map, AllByRecursion}
 use Rattle.wp_model.specs.declared.word.TheConstants.{MOST_NAME_BYTES}
 use Rattle.wp_model.specs.declared.entry.Entry.{Entry}
 use Rattle.wp_model.specs.Word.{is_name}
@@ -10,9 +11,10 @@ use Rattle.wp_encoding.specs.declared.error.EncodingError.{EncodingError}
 use Rattle.wp_encoding.specs.declared.error.EncodingError.TheVariants as encoding
 use Rattle.wp_encoding.specs.Encoding.{word_bytes}
 use Rattle.wp_encoding.specs.Faults.{IsWordFault, IsBatchFault}
+use Rattle.wp_entry.specs.declared.layout.TheConstants.{MOST_COMMITS}
 use Rattle.wp_entry.specs.declared.error.RecordError.{RecordError}
 use Rattle.wp_entry.specs.declared.error.RecordError.TheVariants.{Memory, Short, BadNumber, BadKind, BadWord, Extra}
-use Rattle.wp_entry.specs.Record.{last_number, record_bytes, IsEarlier, IsRecord}
+use Rattle.wp_entry.specs.Record.{last_number, named_bytes, record_bytes, IsEarlier, NamesEarlier, AreCommits, IsRecord}
 
 -- the number is there, and bytes after it
 pub record HasNumberField (format : Format) (bytes : List ℕ) (number : ℕ) (rest : List ℕ) : Type 0 where
@@ -35,7 +37,27 @@ IsEarlierFault format due bytes encoding.Short = length bytes < byte_len (number
 IsEarlierFault format due bytes encoding.Word = (p : ℕ) × ((rest : List ℕ) × HasNumberField format bytes p rest × ((p ≡ 0) ⊎ (due ≤ p)))
 IsEarlierFault format due bytes other = ⊥
 
--- The bytes after a kind have the fault: in the one field that comes, or in the batch after it.
+-- So many Commits are a group whose first has the number that is due, and the last has a number too.
+pub record IsCount (format : Format) (due count : ℕ) : Type 0 where
+  pub from : 2 ≤ count
+  pub most : count ≤ MOST_COMMITS
+  pub numbered : due + count ≤ last_number format + 1
+
+-- so many are none: too few, too many, or there is no number for the last
+abbrev pub IsCountOut : Format → ℕ → ℕ → Type 0
+IsCountOut format due count = (count < 2) ⊎ ((MOST_COMMITS < count) ⊎ (last_number format + 1 < due + count))
+
+-- Fewer Commits than were counted are right, and the number of the next one has the fault.
+pub record IsFaultInGroup (format : Format) (due count : ℕ) (bytes : List ℕ) (fault : EncodingError) : Type 0 where
+  pub commits : List Entry
+  pub rest : List ℕ
+  pub parts : bytes ≡ flat_map (named_bytes format) commits ++ rest
+  pub are : AreCommits commits
+  pub earlier : AllByRecursion (NamesEarlier due) commits
+  pub fewer : length commits < count
+  pub wrong : IsEarlierFault format due rest fault
+
+-- The bytes after a kind have the fault: in the one field that comes, in the batch after it, or in a number after a count.
 pub data IsEntriesFault (format : Format) (due kind : ℕ) (bytes : List ℕ) (fault : EncodingError) : Type 0 where
   write_batch : kind ≡ 1 → IsBatchFault bytes fault → IsEntriesFault format due kind bytes fault
   prepare_name : kind ≡ 2 → IsWordFault MOST_NAME_BYTES bytes fault → IsEntriesFault format due kind bytes fault
@@ -44,6 +66,9 @@ pub data IsEntriesFault (format : Format) (due kind : ℕ) (bytes : List ℕ) (f
   no_number_for_close : kind ≡ 4 → last_number format ≤ due → fault ≡ encoding.Word → IsEntriesFault format due kind bytes fault
   undo_number : kind ≡ 4 → due < last_number format → IsEarlierFault format due bytes fault → IsEntriesFault format due kind bytes fault
   undo_batch : (p : ℕ) (rest : List ℕ) → kind ≡ 4 → due < last_number format → HasNumberField format bytes p rest → IsEarlier due p → IsBatchFault rest fault → IsEntriesFault format due kind bytes fault
+  no_count : kind ≡ 6 → bytes ≡ [] → fault ≡ encoding.Short → IsEntriesFault format due kind bytes fault
+  count_out : (count : ℕ) (rest : List ℕ) → kind ≡ 6 → bytes ≡ count ∷ rest → IsCountOut format due count → fault ≡ encoding.Word → IsEntriesFault format due kind bytes fault
+  group_number : (count : ℕ) (rest : List ℕ) → kind ≡ 6 → bytes ≡ count ∷ rest → IsCount format due count → IsFaultInGroup format due count rest fault → IsEntriesFault format due kind bytes fault
 
 -- the number that is due and a kind are there, and what comes after them has the fault
 pub record IsFaultAfterKind (format : Format) (due : ℕ) (bytes : List ℕ) (fault : EncodingError) : Type 0 where
@@ -61,6 +86,10 @@ pub record HasMore (format : Format) (due : ℕ) (bytes : List ℕ) (extra : ℕ
   pub some : 1 ≤ length rest
   pub counted : extra ≡ length rest
 
+-- no record is of the kind
+abbrev pub IsNoKind : ℕ → Type 0
+IsNoKind kind = (kind ≡ 0) ⊎ ((kind ≡ 5) ⊎ (6 < kind))
+
 -- the number that is due is there, and no entry may have it
 abbrev pub IsPastLast : Format → ℕ → List ℕ → Type 0
 IsPastLast format due bytes = (last_number format < due) × ((rest : List ℕ) × HasNumberField format bytes due rest)
@@ -72,6 +101,6 @@ abbrev pub IsRecordFault : Format → ℕ → List ℕ → RecordError → Type 
 IsRecordFault format due bytes Memory = ⊥
 IsRecordFault format due bytes Short = (length bytes < byte_len (number_width format)) ⊎ (HasDue format bytes due [] ⊎ IsFaultAfterKind format due bytes encoding.Short)
 IsRecordFault format due bytes (BadNumber found wanted) = (wanted ≡ due) × (found ≢ due) × ((rest : List ℕ) × HasNumberField format bytes found rest)
-IsRecordFault format due bytes (BadKind byte) = ((rest : List ℕ) × HasDue format bytes due (byte ∷ rest) × ((byte ≡ 0) ⊎ (4 < byte))) ⊎ IsFaultAfterKind format due bytes (encoding.Kind byte)
+IsRecordFault format due bytes (BadKind byte) = ((rest : List ℕ) × HasDue format bytes due (byte ∷ rest) × IsNoKind byte) ⊎ IsFaultAfterKind format due bytes (encoding.Kind byte)
 IsRecordFault format due bytes BadWord = IsPastLast format due bytes ⊎ IsFaultAfterKind format due bytes encoding.Word
 IsRecordFault format due bytes (Extra extra) = HasMore format due bytes extra

@@ -1,7 +1,7 @@
 -- The records of the log: the one spelling of each in each version of the format, which differ in how wide numbers are.
 use Rattle.std.specs.Prelude.{◌≡◌, ℕ, ◌+◌, ◌<◌, ◌≤◌, Bool, true, ◌&&◌, List, [], ◌∷◌, ◌++◌, length}
 use Rattle.std.specs.Int.{to_be_bytes}
-use Rattle.std.specs.List.{list_all, AllByRecursion}
+use Rattle.std.specs.List.{flat_map, list_all, AllByRecursion}
 use Rattle.wp_model.specs.declared.entry.Entry.{Entry}
 use Rattle.wp_model.specs.declared.entry.Entry.TheVariants.{Write, Prepare, Commit, Undo, Close}
 use Rattle.wp_model.specs.Record.{IsOneRecord}
@@ -10,6 +10,7 @@ use Rattle.wp_fields.specs.declared.format.Format.{Format}
 use Rattle.wp_fields.specs.declared.format.Format.TheVariants.{One, Two}
 use Rattle.wp_fields.specs.Format.{number_width}
 use Rattle.wp_encoding.specs.Encoding.{word_bytes, batch_bytes, are_changes}
+use Rattle.wp_entry.specs.declared.layout.TheConstants.{MOST_COMMITS}
 
 -- ---- numbers
 
@@ -21,11 +22,18 @@ last_number Two = 72057594037927935
 
 -- ---- the spelling
 
+-- the number that a Commit names
+abbrev pub named_bytes : Format → Entry → List ℕ
+named_bytes format (Commit p) = to_be_bytes (number_width format) p
+named_bytes format other = []
+
 -- One byte kind, and what the entries of that kind hold: 01 and the batch of a Write; 02, the name and the batch of a
--- Prepare; 03 and the number that a Commit names; 04, the number that an Undo and its Close name, and the Undo's batch.
+-- Prepare; 03 and the number that a Commit names; 04, the number that an Undo and its Close name, and the Undo's batch;
+-- 06, one byte count of several Commits, and the numbers that these name.
 abbrev pub entries_bytes : Format → List Entry → List ℕ
 entries_bytes format (Write batch ∷ others) = 1 ∷ batch_bytes batch
 entries_bytes format (Prepare name batch ∷ others) = 2 ∷ (word_bytes name ++ batch_bytes batch)
+entries_bytes format (Commit p ∷ Commit q ∷ others) = 6 ∷ length (Commit p ∷ Commit q ∷ others) ∷ flat_map (named_bytes format) (Commit p ∷ Commit q ∷ others)
 entries_bytes format (Commit p ∷ others) = 3 ∷ to_be_bytes (number_width format) p
 entries_bytes format (Undo p batch ∷ others) = 4 ∷ (to_be_bytes (number_width format) p ++ batch_bytes batch)
 entries_bytes format (Close p ∷ others) = []
@@ -57,10 +65,20 @@ NamesEarlier first (Undo p batch) = IsEarlier first p
 NamesEarlier first (Close p) = IsEarlier first p
 NamesEarlier first other = Unit {0}
 
+abbrev pub AreCommits : List Entry → Type 0
+AreCommits [] = Unit {0}
+AreCommits (Commit p ∷ others) = AreCommits others
+AreCommits others = ⊥
+
+-- These entries share a record: one entry, an Undo with its Close, or a group of 2 to 16 Commits.
+abbrev pub ShareRecord : List Entry → Type 0
+ShareRecord (Commit p ∷ Commit q ∷ others) = AreCommits others × (length others + 2 ≤ MOST_COMMITS)
+ShareRecord others = IsOneRecord others
+
 -- These entries share one record in a log, where the first has that number. All numbers are numbers of entries in this
 -- version of the format, and what is named comes before the first.
 pub record FormRecord (format : Format) (first : ℕ) (entries : List Entry) : Type 0 where
-  pub one : IsOneRecord entries
+  pub one : ShareRecord entries
   pub earlier : AllByRecursion (NamesEarlier first) entries
   pub numbered : first + length entries ≤ last_number format + 1
 

@@ -21,7 +21,7 @@ pub enum RecordError {
     BadKind(u8),
     /// A length, a count or a byte of a word is out of range, a key is not above the one before it, a number is none
     /// of an earlier entry, or is past the last that an entry may have, or there is no number for the entry after an
-    /// Undo.
+    /// Undo or for the last of a group.
     #[error("word")]
     BadWord,
     /// So many bytes follow the record.

@@ -1,14 +1,14 @@
-ghost use Rattle.std.specs.Prelude.{◌≡◌, List, IfOk, IfErr, IfSome, Ok, Err};
+ghost use Rattle.std.specs.Prelude.{◌≡◌, ◌≤◌, List, [], IfOk, IfErr, IfSome, Ok, Err};
 ghost use Rattle.wp_model.specs.declared.entry.Entry.{Entry};
 ghost use Rattle.wp_fields.specs.Reading.{Gives};
 ghost use Rattle.wp_entry.specs.declared.error.RecordError.{RecordError};
 ghost use Rattle.wp_entry.specs.Errors.{record_fault};
 ghost use Rattle.wp_entry.specs.Faults.{IsRecordFault};
-ghost use Rattle.wp_entry.specs.Record.{IsRecord, record_bytes};
-ghost use Rattle.wp_entry.specs.Reading.{after_number, write_at, prepare_at, earlier_at, commit_at, rollback_at, entries_at, record_at};
+ghost use Rattle.wp_entry.specs.Record.{last_number, IsRecord, record_bytes};
+ghost use Rattle.wp_entry.specs.Reading.{after_number, write_at, prepare_at, earlier_at, commit_at, rollback_at, commits_after, count_at, group_at, entries_at, record_at};
 
 use crate::error::RecordError;
-use crate::layout::{COMMIT, PREPARE, ROLLBACK, WRITE, last_number};
+use crate::layout::{COMMIT, GROUP, MOST_COMMITS, PREPARE, ROLLBACK, WRITE, last_number};
 use std::alloc::Global;
 use wp_encoding::{read_batch, read_word};
 use wp_fields::{Fields, Format};
@@ -16,7 +16,8 @@ use wp_model::{Entry, Seq};
 
 #[tactic(auto, unfolding(crate::specs::Reading::after_number))]
 fn due_number(fields: &mut Fields<'_>, format: Format, due: Seq) -> Result<(), RecordError>
-    ensures { Gives record_fault (λ _. fields.new) result (after_number format due fields.old) }
+    ensures rest { Gives record_fault (λ _. fields.new) result (after_number format due fields.old) }
+    ensures small { IfOk result (λ _. due ≤ last_number format) }
 {
     let found = fields.number(format).ok_or(RecordError::Short)?;
     if found != due {
@@ -87,6 +88,50 @@ fn one_rollback(
     Ok(vec![in alloc; undo, Entry::Close(p)]?)
 }
 
+/// How many Commits a group has, of which the first has the number that is due.
+#[tactic(auto, unfolding(crate::specs::Reading::count_at))]
+fn group_count(fields: &mut Fields<'_>, format: Format, due: Seq) -> Result<u8, RecordError>
+    requires { due ≤ last_number format }
+    ensures { Gives record_fault (λ count. (count, fields.new)) result (count_at format due fields.old) }
+{
+    let count = fields.u8().ok_or(RecordError::Short)?;
+    if count < 2 || count > MOST_COMMITS || due + u64::from(count) > last_number(format) + 1 {
+        return Err(RecordError::BadWord);
+    }
+    Ok(count)
+}
+
+fn all_commits(
+    alloc: Global,
+    fields: &mut Fields<'_>,
+    format: Format,
+    due: Seq,
+    count: u8,
+) -> Result<Vec<Entry>, RecordError>
+    ensures { Gives record_fault (λ commits. (commits.items, fields.new)) result (commits_after count format due [] fields.old) }
+{
+    let mut commits = Vec::new(alloc);
+    for _ in 0..count {
+        let p = earlier(fields, format, due)?;
+        commits.push(Entry::Commit(p))?;
+    }
+    Ok(commits)
+}
+
+#[tactic(auto, unfolding(crate::specs::Reading::group_at))]
+fn one_group(
+    alloc: Global,
+    fields: &mut Fields<'_>,
+    format: Format,
+    due: Seq,
+) -> Result<Vec<Entry>, RecordError>
+    requires { due ≤ last_number format }
+    ensures { Gives record_fault (λ entries. (entries.items, fields.new)) result (group_at format due fields.old) }
+{
+    let count = group_count(fields, format, due)?;
+    all_commits(alloc, fields, format, due, count)
+}
+
 #[tactic(auto, unfolding(crate::specs::Reading::entries_at))]
 fn entries(
     alloc: Global,
@@ -95,6 +140,7 @@ fn entries(
     due: Seq,
     kind: u8,
 ) -> Result<Vec<Entry>, RecordError>
+    requires { due ≤ last_number format }
     ensures { Gives record_fault (λ entries. (entries.items, fields.new)) result (entries_at format due kind fields.old) }
 {
     match kind {
@@ -102,6 +148,7 @@ fn entries(
         PREPARE => one_prepare(alloc, fields),
         COMMIT => one_commit(alloc, fields, format, due),
         ROLLBACK => one_rollback(alloc, fields, format, due),
+        GROUP => one_group(alloc, fields, format, due),
         other => Err(RecordError::BadKind(other)),
     }
 }

@@ -1,15 +1,49 @@
-ghost use Rattle.std.specs.Prelude.{◌≡◌, ◌<◌, ◌^◌, true, ◌++◌, OnOk};
-ghost use Rattle.std.specs.List.{list_all};
-ghost use Rattle.wp_entry.specs.Record.{entries_bytes, record_bytes, is_entry, FormRecord, IsRecord};
+ghost use Rattle.std.specs.Prelude.{◌≡◌, ◌<◌, ◌≤◌, ◌^◌, true, ◌++◌, OnOk};
+ghost use Rattle.std.specs.List.{flat_map, list_all, AllByRecursion};
+ghost use Rattle.wp_entry.specs.Record.{last_number, named_bytes, entries_bytes, record_bytes, is_entry, NamesEarlier, AreCommits, FormRecord, IsRecord};
 
-use crate::layout::{COMMIT, PREPARE, ROLLBACK, WRITE};
+use crate::layout::{COMMIT, GROUP, PREPARE, ROLLBACK, WRITE};
 use std::alloc::AllocError;
 use wp_encoding::{push_batch, push_word};
 use wp_fields::{Format, push_number, push_u8};
 use wp_model::{Entry, Seq};
 
-/// The kind, and what the entries of that kind hold.
+/// The number that a Commit names.
 #[tactic(auto, using(crate::proofs::Grammar::last_fits))]
+fn push_named(
+    out: &mut Vec<u8>,
+    format: Format,
+    first: Seq,
+    commit: &Entry,
+) -> Result<(), AllocError>
+    requires small { first ≤ last_number format }
+    requires earlier { NamesEarlier first commit.now }
+    ensures pushed { OnOk result (out.new.items ≡ out.old.items ++ named_bytes format commit.now) }
+{
+    match commit {
+        Entry::Commit(p) => push_number(out, format, *p),
+        _ => Ok(()),
+    }
+}
+
+fn push_all_named(
+    out: &mut Vec<u8>,
+    format: Format,
+    first: Seq,
+    commits: &[Entry],
+) -> Result<(), AllocError>
+    requires small { first ≤ last_number format }
+    requires earlier { AllByRecursion (NamesEarlier first) commits.now }
+    ensures pushed { OnOk result (out.new.items ≡ out.old.items ++ flat_map (named_bytes format) commits.now) }
+{
+    for commit in commits {
+        push_named(out, format, first, commit)?;
+    }
+    Ok(())
+}
+
+/// The kind, and what the entries of that kind hold.
+#[tactic(auto, using(crate::proofs::Grammar::last_fits, crate::proofs::Grammar::commits_in_range))]
 fn push_entries(
     out: &mut Vec<u8>,
     format: Format,
@@ -38,6 +72,11 @@ fn push_entries(
             push_u8(out, ROLLBACK)?;
             push_number(out, format, *p)?;
             push_batch(out, batch)
+        }
+        [Entry::Commit(_), Entry::Commit(_), ..] => {
+            push_u8(out, GROUP)?;
+            push_u8(out, entries.len() as u8)?;
+            push_all_named(out, format, first, entries)
         }
         _ => unreachable!(),
     }

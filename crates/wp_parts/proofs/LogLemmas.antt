@@ -17,7 +17,7 @@ use Rattle.wp_outside.specs.Faults.{Rose}
 use Rattle.wp_fields.specs.declared.format.Format.{Format}
 use Rattle.wp_fields.specs.declared.format.Format.TheVariants.{Two}
 use Rattle.wp_entry.specs.Base.{Base}
-use Rattle.wp_entry.specs.Record.{FormRecord, IsRecord, IsEarlier, NamesEarlier, last_number}
+use Rattle.wp_entry.specs.Record.{ShareRecord, FormRecord, IsRecord, IsEarlier, NamesEarlier, last_number}
 use Rattle.wp_gatelog.specs.declared.log.AppendError.TheVariants.{DiskFault}
 use Rattle.wp_gatelog.specs.Moments.{Leaves}
 use Rattle.wp_gatelog.proofs.DurabilityLemmas.{preserves_on}
@@ -57,9 +57,13 @@ earlier_next history (entry.Undo p batch ∷ entry.Close q ∷ []) one legal =
     (first, (subst (IsEarlier (length history + 1)) one first, tt))
 earlier_next history others one legal = absurd one
 
+one_shares : (entries : List Entry) → IsOneRecord entries → ShareRecord entries
+one_shares (entry.Commit p ∷ entry.Commit q ∷ others) one = absurd one
+one_shares others one = one
+
 -- one record that may come next, whose numbers are those of entries in this version, is one of it
 pub form_next : (format : Format) (history entries : List Entry) → IsOneRecord entries → IsLegal (history ++ entries) → length history + length entries ≤ last_number format → FormRecord format (length history + 1) entries
-form_next format history entries one legal within = record { one = one; earlier = earlier_next history entries one legal; numbered = omega (arith, within) }
+form_next format history entries one legal within = record { one = one_shares entries one; earlier = earlier_next history entries one legal; numbered = omega (arith, within) }
 
 -- ---- what the log spells
 
