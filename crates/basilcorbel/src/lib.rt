@@ -11,8 +11,8 @@
 //! - Its pin: `pin` gives an open transaction a snapshot, `OpenTxn::pinned`. A key that comes to it then, by `stage` or by `lock`, which
 //!   reads it under a lock, has to be unchanged since: else `TxnError::Conflict`. So who reads by `lock` alone is serializable.
 //! - One change at once, by itself: `write`.
-//! - Reads: `snapshot` pins a moment of all keys, `get` reads one there, `release` lets go of it. `get_now` reads one key as of now,
-//!   and `begin_read` begins to.
+//! - Reads: `snapshot` pins a moment of all keys, `get` reads one there, `Scan` the rows of a range one by one, `release` lets
+//!   go of it. `get_now` reads one key as of now, and `begin_read` begins to.
 //! - Between clients: what one has told under a label with `tell`, another sees behind `hear`.
 //! - Upkeep: `flush` moves what is in memory into a table, `compact` makes one table of all, and `renew` begins the log anew.
 //! - The end: `Shared::finish` takes all seats back, and hands out the history and the devices.
@@ -29,7 +29,7 @@ pub use wp_history::History;
 pub use wp_maint::{Done, MaintError, RenewError, Renewed, flush};
 pub use wp_model::{
     Batch, Change, Holder, Key, MOST_KEY_BYTES, MOST_KEYS, MOST_NAME_BYTES, MOST_VALUE_BYTES, Name,
-    Seq, Value, Word, WordError,
+    Row, Seq, Value, Word, WordError,
 };
 pub use wp_opened::open_shared;
 pub use wp_outside::{Device, Disk, Disks, Failed, Peek};
@@ -37,6 +37,7 @@ pub use wp_read::{Begun, Snapshot, begin_read, get, get_now, release, snapshot};
 pub use wp_real::FileDisk;
 pub use wp_refused::{Bad, OpenError, OpenRefused};
 pub use wp_renew::renew;
+pub use wp_scan::Scan;
 pub use wp_shared::{Finished, Seat, Shared};
 pub use wp_txn::{
     Locked, OpenTxn, PreparedTxn, Refused, TxnError, abandon, begin, commit, commit_now, hear,

@@ -3,6 +3,7 @@ ghost use Rattle.std.specs.Prelude.{◌≡◌};
 ghost use Rattle.embedded.specs.Alone.{IsAlone};
 
 use crate::error::BankError;
+use crate::listing::{Listing, list};
 use crate::transfer::{Balances, decide, look, prepare_transfer};
 use basilcorbel::{
     Change, Disk, Disks, Key, Name, OpenRefused, Seat, Seq, Shared, Value, open_shared, write,
@@ -20,12 +21,13 @@ const LIMIT: Seq = (1 << 46) - 1;
 /// The number of the store, where it is made.
 const ID: u32 = 1;
 
-/// What came of the transfer.
+/// What came of the transfer, and what all accounts have behind it.
 #[derive(Drop)]
 pub(crate) struct Told {
     prepared: Seq,
     decided: Seq,
     balances: Balances,
+    listing: Listing,
 }
 
 /// The two accounts.
@@ -35,10 +37,14 @@ struct Accounts {
     payee: Key,
 }
 
+fn text(bytes: &[u8]) -> &str {
+    str::from_utf8(bytes).unwrap_or("?")
+}
+
 /// What an account has, as text.
 fn shown(balance: &Option<Value>) -> &str {
     match balance {
-        Some(value) => str::from_utf8(value.bytes()).unwrap_or("?"),
+        Some(value) => text(value.bytes()),
         None => "nothing",
     }
 }
@@ -48,7 +54,12 @@ impl fmt::Display for Told {
         let Balances { at, payer, payee } = &self.balances;
         writeln!(f, "prepared @{}", self.prepared)?;
         writeln!(f, "decided @{}", self.decided)?;
-        write!(f, "anna {} ben {} @{at}", shown(payer), shown(payee))
+        writeln!(f, "anna {} ben {} @{at}", shown(payer), shown(payee))?;
+        write!(f, "accounts @{}", self.listing.at)?;
+        for row in &self.listing.rows {
+            write!(f, "\n{} {}", text(row.key.bytes()), text(row.value.bytes()))?;
+        }
+        Ok(())
     }
 }
 
@@ -57,7 +68,7 @@ fn put(alloc: Global, account: &Key, balance: &[u8]) -> Result<Change, BankError
     Ok(Change::Put(account.copy(alloc)?, Value::read(alloc, balance)?))
 }
 
-/// The payer gets 100, and transfers 30 of it to the payee.
+/// The payer gets 100, and transfers 30 of it to the payee. All accounts are listed behind that.
 fn serve<D: Disk + Drop, R: Wait>(
     store: &Shared<D>,
     rt: &R,
@@ -78,10 +89,14 @@ fn serve<D: Disk + Drop, R: Wait>(
     let number = prepared.number();
     let decided = decide(store, rt, alloc, seat, prepared)?;
     let balances = look(store, rt, seat, payer, payee)?;
+    let first = Key::read(alloc, b"a")?;
+    let last = Key::read(alloc, b"z")?;
+    let listing = list(store, rt, alloc, seat, &first, &last)?;
     Ok(Told {
         prepared: number,
         decided,
         balances,
+        listing,
     })
 }
 

@@ -1,9 +1,10 @@
 //! A program that keeps a store of its own, on three files: a transfer between two accounts is prepared, decided, and read at one
-//! snapshot. It names the front door and the kit's library alone.
+//! snapshot, and all accounts are listed at another. It names the front door and the kit's library alone.
 #![tactic(auto)]
 
 mod bank;
 mod error;
+mod listing;
 mod transfer;
 
 use crate::bank::keep;

@@ -8,6 +8,7 @@ use Rattle.wp_model.specs.declared.entry.Entry.{Entry}
 use Rattle.wp_model.specs.declared.entry.Entry.TheVariants.{Write}
 use Rattle.wp_model.specs.Batch.{key_of}
 use Rattle.wp_model.specs.History.{entry_at}
+use Rattle.wp_model.specs.LockState.{is_among_keys}
 use Rattle.wp_model.proofs.Entries.{entry_at_old, entry_at_past}
 use Rattle.wp_history_laws.proofs.Growth.{entry_at_next, length_next}
 use Rattle.wp_core.specs.Lists.{IsIn}
@@ -21,9 +22,20 @@ use Rattle.wp_shared.specs.Calls.{ContinuesWith, Continues, IsLoose}
 use Rattle.wp_shared.specs.Seats.{SharedState, SeatState}
 use Rattle.wp_open_txns.specs.declared.error.TxnError.{TxnError}
 use Rattle.wp_open_txns.specs.declared.error.TxnError.TheVariants.{Memory, Busy, TooMany, Conflict, NumbersFull, LogFault, Stopped}
-use Rattle.wp_open_txns.specs.Calls.{Changes, locking}
+use Rattle.wp_open_txns.specs.declared.validating.Locked.{Locked}
+use Rattle.wp_open_txns.specs.declared.validating.Locked.TheVariants.{Own, Read}
+use Rattle.wp_open_txns.specs.Calls.{Changes, Pins, LocksForRead, locking}
 use Rattle.wp_open_txns.specs.Txn.{OpenState, PreparedState, has_key, HasOpen, HasPrepared}
 use Rattle.wp_txn.specs.Writes.{Refuses, WritesDirect}
+use Rattle.wp_maint.specs.declared.done.Done.{Done}
+use Rattle.wp_maint.specs.declared.error.MaintError.{MaintError}
+use Rattle.wp_maint.specs.declared.error.MaintError.TheVariants as maint
+use Rattle.wp_maint.specs.declared.renewed.Renewed.{Renewed}
+use Rattle.wp_maint.specs.declared.renewed.RenewError.{RenewError}
+use Rattle.wp_maint.specs.declared.renewed.RenewError.TheVariants as renew
+use Rattle.wp_maint.specs.Calls.{Flushes}
+use Rattle.wp_maint.specs.Renewal.{Renews}
+use Rattle.wp_compact.specs.Calls.{Compacts}
 use Rattle.wp_calls_tests.specs.Ready.{IsReader, IsWriter}
 
 -- ---- versions
@@ -103,6 +115,20 @@ module _ {D : Type 0} (z : SharedState D) (old new : SeatState) (direct : old.kn
   changed txn change (Err Memory) left c = wrote IsLoose _ c.2 (Some left) None direct c.1 tt
   changed txn change (Err other) left c = absurd c
 
+  pub pinned : (txn : OpenState) (answer : Result ℕ TxnError) (left : OpenState) → Pins z old txn answer new left → IsWriter z new (Some left) None
+  pinned txn (Ok n) left c = wrote IsLoose _ c.6 (Some left) None direct c.2 tt
+  pinned txn (Err Memory) left c = wrote IsLoose _ c.2 (Some left) None direct c.1 tt
+  pinned txn (Err other) left c = absurd c
+
+  pub locked : (txn : OpenState) (key : List ℕ) (answer : Result Locked TxnError) (left : OpenState) → LocksForRead z old txn key answer new left → IsWriter z new (Some left) None
+  locked txn key (Ok Own) left c = wrote IsLoose _ c.3 (Some left) None direct c.1 tt
+  locked txn key (Ok (Read value n)) left c = wrote IsLoose _ c.2.goes_on (Some left) None (locking_direct (is_among_keys txn.locked key) txn.name key old.knows.participant ∙ direct) c.1 tt
+  locked txn key (Err TooMany) left (no_change, k) = wrote IsLoose _ k.3 (Some left) None direct k.1 tt
+  locked txn key (Err (Busy holder)) left (no_change, k) = wrote IsLoose _ k.5.goes_on (Some left) None direct k.1 tt
+  locked txn key (Err (Conflict number)) left (no_change, k) = wrote IsLoose _ k.4.goes_on (Some left) None direct k.1 tt
+  locked txn key (Err Memory) left c = ⊎_elim (λ keeps. wrote IsLoose _ keeps (Some left) None direct c.1 tt) (λ given. wrote IsLoose _ given.goes_on (Some left) None direct c.1 tt) c.3
+  locked txn key (Err other) left (no_change, k) = absurd k
+
   -- ---- a direct write
 
   abbrev asks_write : Change → List Entry → Type 0
@@ -129,13 +155,42 @@ in_back [] r = inl refl
 in_back (x ∷ xs) r = inr (in_back xs r)
 
 module _ {D : Type 0} (z : SharedState D) (old new : SeatState) (v : Option ℕ) where
-  -- the seat goes on with this snapshot
-  pub went : (o : Option Registration) (after : Participant) → Continues z old new after → IfSome o (λ r. IsIn r after.registered) → IfSome v (λ p. has_versions_at old.knows.participant.seen p ≡ true) → IsReader z new o v
-  went o after goes has_o has_v = record {
+  -- the seat goes on with this snapshot, and writes nothing directly
+  pub went : (Stays : Fact → Type 0) (o : Option Registration) (after : Participant) → after.direct ≡ None → ContinuesWith Stays z old new after → IfSome o (λ r. IsIn r after.registered) → IfSome v (λ p. has_versions_at old.knows.participant.seen p ≡ true) → IsReader z new o v
+  went Stays o after none goes has_o has_v = record {
     free = goes.free;
+    direct = ap (λ (x : Participant). x.direct) goes.participant ∙ none;
     registered = subst (λ (x : Participant). IfSome o (λ r. IsIn r x.registered)) (sym goes.participant) has_o;
     has_version = if_stays _ _ v (λ p has. versions_stay new.knows.participant.seen old.knows.participant.seen p goes.seen has) has_v;
   }
 
-  pub snapped : (r : Registration) → Continues z old new (record old.knows.participant { registered = old.knows.participant.registered ++ r ∷ [] }) → IfSome v (λ p. has_versions_at old.knows.participant.seen p ≡ true) → IsReader z new (Some r) v
-  snapped r goes has = went (Some r) _ goes (in_back old.knows.participant.registered r) has
+  pub snapped : (r : Registration) → old.knows.participant.direct ≡ None → Continues z old new (record old.knows.participant { registered = old.knows.participant.registered ++ r ∷ [] }) → IfSome v (λ p. has_versions_at old.knows.participant.seen p ≡ true) → IsReader z new (Some r) v
+  snapped r none goes has = went IsLoose (Some r) _ none goes (in_back old.knows.participant.registered r) has
+
+  -- however a direct write ends
+  pub put : (o : Option Registration) → IsReader z old o v → (change : Change) (answer : Result ℕ TxnError) → WritesDirect z old change answer new → IsReader z new o v
+  put o was change (Ok n) c = went _ o _ was.direct c.1.1.goes_on was.registered was.has_version
+  put o was change (Err (Busy holder)) c = went IsLoose o _ was.direct c.goes_on was.registered was.has_version
+  put o was change (Err Memory) c = ⊎_elim (λ none. went IsLoose o _ was.direct none was.registered was.has_version) (λ freed. went IsLoose o _ was.direct freed.0 was.registered was.has_version) c
+  put o was change (Err (Stopped n)) c = went IsLoose o _ was.direct c.0.2 was.registered was.has_version
+  put o was change (Err (NumbersFull published limit)) c = went IsLoose o _ was.direct c.0.4 was.registered was.has_version
+  put o was change (Err LogFault) c = went IsLoose o _ was.direct c.0.2.2 was.registered was.has_version
+  put o was change (Err other) c = absurd c.0
+
+  -- however versions were moved
+  same : (o : Option Registration) → IsReader z old o v → (after : Participant) → Continues z old new after → after.direct ≡ old.knows.participant.direct → after.registered ≡ old.knows.participant.registered → IsReader z new o v
+  same o was after goes direct registered = went IsLoose o after (direct ∙ was.direct) goes (subst (λ rs. IfSome o (λ r. IsIn r rs)) (sym registered) was.registered) was.has_version
+
+  pub flushed : (o : Option Registration) → IsReader z old o v → (answer : Result Done MaintError) → Flushes z old answer new → IsReader z new o v
+  flushed o was (Err maint.Memory) (t, goes) = same o was _ goes refl refl
+  flushed o was (Err maint.Nothing) (t, (whole, k)) = same o was _ k.goes_on refl refl
+  flushed o was (Err maint.TableFault) (t, (whole, k)) = same o was _ k.goes_on refl refl
+  flushed o was _ (t, k) = same o was _ k.goes_on refl refl
+
+  pub compacted : (o : Option Registration) → IsReader z old o v → (answer : Result Done MaintError) → Compacts z old answer new → IsReader z new o v
+  compacted o was (Err maint.Memory) (t, goes) = same o was _ goes refl refl
+  compacted o was _ (t, k) = same o was _ k.goes_on refl refl
+
+  pub renewed : (o : Option Registration) → IsReader z old o v → (answer : Result Renewed RenewError) → Renews z old answer new → IsReader z new o v
+  renewed o was (Err renew.Memory) (t, k) = same o was _ k.goes_on refl refl
+  renewed o was _ (t, k) = same o was _ k.goes_on refl refl

@@ -13,8 +13,9 @@ pub record IsWriter {D : Type 0} (z : SharedState D) (s : SeatState) (begun : Op
   pub has_begun : IfSome begun (HasOpen s)
   pub has_prepared : IfSome prepared (HasPrepared s)
 
--- The seat is free. The client's snapshot is registered, and the entry with its version's number has versions.
+-- The seat is free and writes nothing directly. The client's snapshot is registered, and the entry with its version's number has versions.
 pub record IsReader {D : Type 0} (z : SharedState D) (s : SeatState) (snapshot : Option Registration) (version : Option ℕ) : Type 0 where
   pub free : IsFree z.table s
+  pub direct : s.knows.participant.direct ≡ None
   pub registered : IfSome snapshot (λ r. IsIn r s.knows.participant.registered)
   pub has_version : IfSome version (λ p. has_versions_at s.knows.participant.seen p ≡ true)

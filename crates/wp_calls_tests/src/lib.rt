@@ -12,9 +12,13 @@
 #[cfg(test)]
 mod pairs;
 #[cfg(test)]
+mod pins;
+#[cfg(test)]
 mod reader;
 #[cfg(test)]
 mod readers;
+#[cfg(test)]
+mod scans;
 #[cfg(test)]
 mod scripts;
 #[cfg(test)]

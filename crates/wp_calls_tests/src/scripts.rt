@@ -5,7 +5,7 @@ ghost use Rattle.wp_calls_tests.specs.Ready.{IsReader, IsWriter};
 
 use crate::reader::{Reading, glance, learn, read};
 use crate::stores::{Seats, end, opened};
-use crate::writer::{Writing, write};
+use crate::writer::{Writing, key, write};
 use std::alloc::Global;
 use std::process::Abort;
 use std::sync::Wait;
@@ -13,6 +13,7 @@ use std::test::*;
 use wp_memory::MemDisk;
 use wp_model::Seq;
 use wp_read::Snapshot;
+use wp_scan::Scan;
 use wp_shared::{Seat, Shared};
 use wp_txn::{OpenTxn, PreparedTxn};
 
@@ -21,7 +22,7 @@ use wp_txn::{OpenTxn, PreparedTxn};
 pub(super) enum Step {
     /// A call of the first client, which writes.
     One(Writing),
-    /// A call of the second one, which reads.
+    /// A call of the second one, which reads, writes at once, and moves versions.
     Two(Reading),
     /// The second client learns what the first one has seen, with its version, and the published number.
     TwoLearns(Seq),
@@ -69,6 +70,7 @@ fn take_once<R: Abort + Wait>(
     one: &mut Seat<MemDisk>,
     two: &mut Seat<MemDisk>,
     held: Held,
+    scan: &mut Scan,
     step: Step,
 ) -> (Held, Option<bool>)
     requires one { IsWriter store.now one.old held.begun held.prepared }
@@ -93,7 +95,7 @@ fn take_once<R: Abort + Wait>(
             (Held::of(begun, prepared, made, snapshot, version), outcome)
         }
         Step::Two(what) => {
-            let (snapshot, outcome) = read(store, rt, alloc, two, snapshot, version, what);
+            let (snapshot, outcome) = read(store, rt, alloc, two, snapshot, version, scan, what);
             (Held::of(begun, prepared, made, snapshot, version), outcome)
         }
         Step::TwoLearns(at) => {
@@ -115,7 +117,40 @@ fn take_once<R: Abort + Wait>(
     }
 }
 
-/// Opens a store with one word in its cache, takes the steps and ends it. A step that wants memory is taken once more.
+/// Takes the step, once more where it wanted memory.
+fn take<R: Abort + Wait>(
+    store: &Shared<MemDisk>,
+    rt: &R,
+    alloc: Global,
+    one: &mut Seat<MemDisk>,
+    two: &mut Seat<MemDisk>,
+    held: Held,
+    scan: &mut Scan,
+    step: Step,
+) -> (Held, Option<bool>)
+    requires one { IsWriter store.now one.old held.begun held.prepared }
+    requires made { IfSome held.made (λ p. has_versions_at one.old.knows.participant.seen p ≡ true) }
+    requires two { IsReader store.now two.old held.snapshot held.version }
+    ensures one { IsWriter store.now one.new result.0.begun result.0.prepared }
+    ensures made { IfSome result.0.made (λ p. has_versions_at one.new.knows.participant.seen p ≡ true) }
+    ensures two { IsReader store.now two.new result.0.snapshot result.0.version }
+{
+    let (held, outcome) = take_once(store, rt, alloc, one, two, held, scan, step);
+    match outcome {
+        None => take_once(store, rt, alloc, one, two, held, scan, step),
+        Some(is_so) => (held, Some(is_so)),
+    }
+}
+
+/// A scan from `a` to `f`.
+fn begun<R: Abort>(rt: &R, alloc: Global) -> Scan {
+    let Ok(scan) = Scan::begin(alloc, &key(rt, alloc, b"a"), &key(rt, alloc, b"f")) else {
+        panic!(rt; "no memory for a scan");
+    };
+    scan
+}
+
+/// Opens a store with one word in its cache, takes the steps and ends it.
 pub(super) fn play<R: Abort + Wait>(rt: &R, alloc: Global, name: &str, steps: &[Step]) {
     let Seats {
         store,
@@ -123,17 +158,30 @@ pub(super) fn play<R: Abort + Wait>(rt: &R, alloc: Global, name: &str, steps: &[
         mut writing,
         mut reading,
     } = opened(rt, alloc, 0);
-    let mut held = Held {
-        begun: None,
-        prepared: None,
-        made: None,
-        snapshot: None,
-        version: None,
-    };
+    let mut scan = begun(rt, alloc);
+    let mut held = Held::of(None, None, None, None, None);
     for (place, step) in steps.iter().enumerate() {
-        let (next, outcome) = take_once(&store, rt, alloc, &mut writing, &mut reading, held, *step);
+        let (next, outcome) = take_once(
+            &store,
+            rt,
+            alloc,
+            &mut writing,
+            &mut reading,
+            held,
+            &mut scan,
+            *step,
+        );
         let (next, outcome) = match outcome {
-            None => take_once(&store, rt, alloc, &mut writing, &mut reading, next, *step),
+            None => take_once(
+                &store,
+                rt,
+                alloc,
+                &mut writing,
+                &mut reading,
+                next,
+                &mut scan,
+                *step,
+            ),
             Some(is_so) => (next, Some(is_so)),
         };
         assert!(rt; matches!(outcome, Some(true)), "{name}, step {place}");

@@ -41,7 +41,7 @@ pub(super) fn opened<R: Abort>(rt: &R, alloc: Global, bits: u32) -> Seats
     requires { bits ≤ 16 }
     ensures first { IsFree result.store.table result.first × (result.first.by ≡ 0) × (result.first.knows.joined ≡ []) × (result.first.knows.made ≡ 2) }
     ensures writing { IsFree result.store.table result.writing × (result.writing.knows.participant.direct ≡ None) }
-    ensures reading { IsFree result.store.table result.reading }
+    ensures reading { IsFree result.store.table result.reading × (result.reading.knows.participant.direct ≡ None) }
 {
     let disks = Disks {
         log: device(rt, alloc),

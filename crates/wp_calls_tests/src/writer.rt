@@ -1,5 +1,5 @@
 //! The client that writes: its calls on transactions.
-ghost use Rattle.std.specs.Prelude.{◌≡◌, true, IfSome};
+ghost use Rattle.std.specs.Prelude.{◌≡◌, true, Some, IfSome};
 ghost use Rattle.wp_core.specs.Sound.Snapshots.{has_versions_at};
 ghost use Rattle.wp_calls_tests.specs.Ready.{IsWriter};
 
@@ -10,13 +10,18 @@ use std::sync::Wait;
 use wp_memory::MemDisk;
 use wp_model::{Change, Key, Seq, Value};
 use wp_shared::{Seat, Shared};
-use wp_txn::{OpenTxn, PreparedTxn, Refused, TxnError};
+use wp_txn::{Locked, OpenTxn, PreparedTxn, Refused, TxnError};
 
 /// What the client does. Its transaction has the name `t`, and a number is the one that the call has to answer.
 #[derive(Clone, Copy)]
 pub(super) enum Writing {
     Begin,
     Put(&'static [u8], &'static [u8]),
+    Pin(Seq),
+    /// It locks a key of which it has no change, and reads this value.
+    Lock(&'static [u8], Option<&'static [u8]>),
+    /// It locks a key that was changed since its pin, last by the entry with this number.
+    Conflict(&'static [u8], Seq),
     Prepare(Seq),
     Commit(Seq),
     Rollback(Seq),
@@ -43,19 +48,59 @@ pub(super) fn key<R: Abort>(rt: &R, alloc: Global, bytes: &[u8]) -> Key {
     key
 }
 
-fn value<R: Abort>(rt: &R, alloc: Global, bytes: &[u8]) -> Value {
+pub(super) fn value<R: Abort>(rt: &R, alloc: Global, bytes: &[u8]) -> Value {
     let Ok(value) = Value::read(alloc, bytes) else {
         panic!(rt; "no memory for a value");
     };
     value
 }
 
+pub(super) fn is_value(found: &Option<Value>, value: Option<&[u8]>) -> bool {
+    match (found, value) {
+        (Some(found), Some(value)) => found.bytes() == value,
+        (None, None) => true,
+        _ => false,
+    }
+}
+
 /// No answer for want of memory, and else a wrong one.
-fn refused(why: TxnError) -> Option<bool> {
+pub(super) fn refused(why: TxnError) -> Option<bool> {
     match why {
         TxnError::Memory => None,
         _ => Some(false),
     }
+}
+
+/// Pins what is published.
+fn pin<R: Wait>(
+    store: &Shared<MemDisk>,
+    rt: &R,
+    seat: &mut Seat<MemDisk>,
+    txn: &mut OpenTxn,
+    at: Seq,
+) -> Option<bool>
+    requires { IsWriter store.now seat.old (Some txn.old) None }
+    ensures { IsWriter store.now seat.new (Some txn.new) None }
+{
+    match wp_txn::pin(store, rt, seat, txn) {
+        Ok(n) => Some(n == at),
+        Err(why) => refused(why),
+    }
+}
+
+/// Locks the key for the transaction.
+fn lock<R: Abort + Wait>(
+    store: &Shared<MemDisk>,
+    rt: &R,
+    alloc: Global,
+    seat: &mut Seat<MemDisk>,
+    txn: &mut OpenTxn,
+    bytes: &[u8],
+) -> Result<Locked, TxnError>
+    requires { IsWriter store.now seat.old (Some txn.old) None }
+    ensures { IsWriter store.now seat.new (Some txn.new) None }
+{
+    wp_txn::lock(store, rt, alloc, seat, txn, key(rt, alloc, bytes))
 }
 
 /// Takes the transaction that was left prepared.
@@ -104,6 +149,27 @@ pub(super) fn write<R: Abort + Wait>(
             let outcome = match wp_txn::stage(store, rt, alloc, seat, &mut txn, change) {
                 Ok(()) => Some(true),
                 Err(why) => refused(why),
+            };
+            (Some(txn), None, None, outcome)
+        }
+        (Writing::Pin(at), Some(mut txn), None) => {
+            let outcome = pin(store, rt, seat, &mut txn, at);
+            (Some(txn), None, None, outcome)
+        }
+        (Writing::Lock(k, v), Some(mut txn), None) => {
+            let outcome = match lock(store, rt, alloc, seat, &mut txn, k) {
+                Ok(Locked::Read(found, _at)) => Some(is_value(&found, v)),
+                Ok(Locked::Own) => Some(false),
+                Err(why) => refused(why),
+            };
+            (Some(txn), None, None, outcome)
+        }
+        (Writing::Conflict(k, at), Some(mut txn), None) => {
+            let outcome = match lock(store, rt, alloc, seat, &mut txn, k) {
+                Err(TxnError::Conflict(n)) => Some(n == at),
+                Err(why) => refused(why),
+                Ok(Locked::Own) => Some(false),
+                Ok(Locked::Read(_found, _at)) => Some(false),
             };
             (Some(txn), None, None, outcome)
         }
