@@ -40,6 +40,9 @@ class Alone:
             return self.keeps_key(client, command[1]) or self.due_read(client, command)
         if kind in ("get", "lock"):
             return self.due_read(client, command)
+        if kind == "scan":
+            at = client.snapshot(command[-1]) if is_at(command) else published
+            return ("rows", at, self.history.rows(command[1], command[2], at))
         if kind in ("begin", "take"):
             named = self.history.named(command[1]) is not None
             if kind == "begin":

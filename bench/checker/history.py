@@ -118,6 +118,11 @@ class History:
         place = bisect_right(numbers, len(self) if n is None else n)
         return values[place - 1] if place else None
 
+    def rows(self, start, end, n):
+        """The keys of a range, both ends of which belong to it, under which the first n entries leave a value, with it."""
+        values = [(key, self.value(key, n)) for key in sorted(self.values) if start <= key <= end]
+        return tuple((key, value) for key, value in values if value is not None)
+
     def conflict(self, key, after, n):
         """The last of the entries after so many, among the first n, that changed what the store has under the key, or None."""
         numbers, _ = self.values.get(key, ([], []))
@@ -332,6 +337,11 @@ def entries_of(record, due, version):
     elif kind == 4:
         p = fields.number(width)
         entries = [Entry("undo", number=p, batch=fields.batch()), Entry("close", number=p)]
+    elif kind == 6:
+        count = fields.number(1)
+        if not 2 <= count <= 16:
+            raise Damaged("another count of commits")
+        entries = [Entry("commit", number=fields.number(width)) for _ in range(count)]
     else:
         raise Damaged("no kind of record")
     fields.end()

@@ -6,7 +6,7 @@ from .history import MOST_KEYS, MOST_SNAPSHOTS, Edit, Entry, History, has, with_
 from .texts import Wrong, need
 
 # The replies that say up to which entry the client has seen the history.
-FRESH = {"put", "del", "get", "missing", "snap", "pinned", "prepare", "commit", "rollback", "told", "heard", "unknown", "flushed", "compacted", "renewed"}
+FRESH = {"put", "del", "get", "missing", "rows", "snap", "pinned", "prepare", "commit", "rollback", "told", "heard", "unknown", "flushed", "compacted", "renewed"}
 
 
 # ---- clients
@@ -50,7 +50,7 @@ def refusal(client, command):
         return ("state",)
     if kind == "lock" and not client.has_room(command[1]):
         return ("toomany",)
-    if kind in ("begin", "take") and client.state != "idle":
+    if kind in ("begin", "take", "scan") and client.state != "idle":
         return ("state",)
     if kind in ("commit", "rollback") and client.state == "idle":
         return ("state",)
@@ -58,8 +58,8 @@ def refusal(client, command):
         return ("state",)
     if kind == "free" and client.snapshot(command[1]) is None:
         return ("unknown snapshot", command[1])
-    if is_at(command) and client.snapshot(command[3]) is None:
-        return ("unknown snapshot", command[3])
+    if is_at(command) and client.snapshot(command[-1]) is None:
+        return ("unknown snapshot", command[-1])
     if kind == "snap":
         if client.snapshot(command[1]) is not None:
             return ("taken", command[1])
@@ -69,7 +69,8 @@ def refusal(client, command):
 
 
 def is_at(command):
-    return command[0] == "get" and len(command) == 4
+    """Whether it reads at a snapshot of the client's."""
+    return (command[0], len(command)) in (("get", 4), ("scan", 5))
 
 
 def change_of(command):
@@ -236,6 +237,8 @@ class Judge:
             self.change_row(command, answer)
         elif command[0] in ("get", "lock"):
             self.get_row(command, answer)
+        elif command[0] == "scan":
+            self.scan_row(command, answer)
         elif command[0] in ("snap", "pin", "free", "tell", "hear"):
             self.label_row(command, answer)
         else:
@@ -307,6 +310,17 @@ class Judge:
             self.value(key, answer)
         else:
             self.none(command, answer)
+
+    def scan_row(self, command, answer):
+        need(answer[0] == "rows", "row", "a scan has no such reply")
+        n, told = answer[1:]
+        if is_at(command):
+            need(n == self.client.snapshot(command[-1]), "snapshot", f"the snapshot has the number {self.client.snapshot(command[-1])}")
+        else:
+            self.fresh(n)
+        need(n <= len(self.evidence.history), "published", f"there are {len(self.evidence.history)} entries")
+        left = self.evidence.history.rows(command[1], command[2], n)
+        need(left == told, "rows", f"the first {n} entries leave {left} there")
 
     def value(self, key, answer):
         n = answer[-1]
@@ -429,7 +443,7 @@ class Judge:
 
 
 def fresh_number(command, answer, last):
-    """The greatest fresh number after the reply; that of a read at a snapshot is none."""
+    """The greatest fresh number after the reply; that of a read or a scan at a snapshot is none."""
     if answer[0] not in FRESH or is_at(command):
         return last
     return answer[2] if answer[0] in ("get", "unknown") else answer[1]

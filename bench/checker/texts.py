@@ -65,6 +65,7 @@ FORMS = [
     ("flushed", rf"flushed @{NUMBER} {NUMBER}"),
     ("compacted", rf"compacted @{NUMBER} {NUMBER}"),
     ("renewed", rf"renewed @{NUMBER} {NUMBER}"),
+    ("rows", rf"rows @{NUMBER}((?: [\x21-\x7e]+ [\x21-\x7e]+)*)"),
 ]
 PATTERNS = [(form, re.compile(pattern)) for form, pattern in FORMS]
 # The forms whose groups have a word first.
@@ -72,11 +73,14 @@ WORD_FIRST = {"taken", "inuse", "silent", "busy txn", "busy client", "get own", 
 
 
 def reply_in(line):
-    """The reply that the line has: its form, and its words and numbers."""
+    """The reply that the line has: its form, and its words and numbers; of rows the number, and the pairs of keys and values."""
     for form, pattern in PATTERNS:
         found = pattern.fullmatch(line)
         if found:
             groups = found.groups()
+            if form == "rows":
+                words = groups[1].split()
+                return (form, int(groups[0]), tuple(zip(words[::2], words[1::2])))
             words = groups[:1] if form in WORD_FIRST else ()
             return (form, *words, *map(int, groups[len(words) :]))
     raise Wrong("text", f"`{line}` is no reply")
