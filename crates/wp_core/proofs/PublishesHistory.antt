@@ -1,16 +1,17 @@
 -- The pending entry joins the history: the history with its log, who saw it, and who published what.
-use Rattle.std.proofs.Common.{◌≡◌, ◌⊎◌, inl, inr, ℕ, suc, ◌+◌, ◌≤◌, nat_lt, nat_le, ◌==◌, ◌&&◌, Bool, true, false, cond, List, [], ◌∷◌, ◌++◌, length, append-nil, append_assoc, map, set, refl, sym, subst, ap, ◌∙◌, Some, None, arith}
+use Rattle.std.proofs.Common.{◌≡◌, ◌⊎◌, inl, inr, ℕ, suc, ◌+◌, ◌≤◌, ◌<◌, nat_lt, nat_le, ◌==◌, ◌&&◌, Bool, true, false, cond, List, [], ◌∷◌, ◌++◌, length, append-nil, append_assoc, map, set, refl, sym, subst, ap, ◌∙◌, Some, None, arith}
 use Rattle.std.proofs.lemmas.Bool.Decides.{nat_tests}
 use mathlib.Core.Option.{some}
 use lib.ListN.{get_elem?}
 use Rattle.wp_model.specs.declared.entry.Entry.{Entry}
 use Rattle.wp_model.specs.declared.entry.Entry.TheVariants.{Write, Prepare, Commit, Undo, Close}
+use Rattle.wp_model.specs.declared.entry.TheConstants.{MOST_COMMITS}
 use Rattle.wp_model.specs.Legal.{IsLegal}
 use Rattle.wp_history_laws.specs.Growth.{undone_by}
 use Rattle.wp_history_laws.proofs.Growth.{length_next}
 use Rattle.wp_history_laws.proofs.Undone.{undone_next}
 use Rattle.wp_core.specs.Lists.{one_if}
-use Rattle.wp_model.specs.Record.{IsOneRecord}
+use Rattle.wp_model.specs.Record.{AreCommits, IsOneRecord}
 use Rattle.wp_core.specs.States.{WriteState}
 use Rattle.wp_core.specs.World.{Actor}
 use Rattle.wp_core.specs.Effects.{with_entry}
@@ -25,28 +26,34 @@ use Rattle.wp_model.proofs.Tests.{same_some}
 cons_is : (x y : Entry) (xs ys : List Entry) → x ∷ xs ≡ y ∷ ys → (x ≡ y) × (xs ≡ ys)
 cons_is x y xs ys e = (cc, cc)
 
--- what follows the first entry of a record: nothing, or the Close of an Undo
+-- what follows the first entry of a record: the other Commits of a group, or nothing; or the Close of an Undo
 abbrev Follows : Entry → List Entry → Type 0
-Follows entry others = ((others ≡ []) × (undone_by entry ≡ None)) ⊎ ((p : ℕ) × (undone_by entry ≡ Some p) × (others ≡ Close p ∷ []))
+Follows entry others = (AreCommits others × (length others < MOST_COMMITS) × (undone_by entry ≡ None)) ⊎ ((p : ℕ) × (undone_by entry ≡ Some p) × (others ≡ Close p ∷ []))
 
 rest_of_record : (entry : Entry) (others : List Entry) → IsOneRecord (entry ∷ others) → Follows entry others
-rest_of_record (Write batch) [] k = inl (refl, refl)
-rest_of_record (Prepare name batch) [] k = inl (refl, refl)
-rest_of_record (Commit p) [] k = inl (refl, refl)
+rest_of_record (Write batch) [] k = inl (tt, omega arith, refl)
+rest_of_record (Prepare name batch) [] k = inl (tt, omega arith, refl)
+rest_of_record (Commit p) others k = inl (k.0, k.1, refl)
 rest_of_record (Undo p batch) (Close q ∷ []) k = inr (p, refl, ap (λ (n : ℕ). Close n ∷ []) (sym k))
 rest_of_record entry others k = absurd k
 
 follows : (entry : Entry) (others : List Entry) → IsRest (entry ∷ others) → Follows entry others
 follows entry others (inl e) = let k : ◌≡◌ {A = ℕ} (suc (length others)) 0 = ap length e in absurd (omega arith)
 follows entry others (inr (inl k)) = rest_of_record entry others k
-follows entry others (inr (inr (p, e))) = let k = cons_is entry (Close p) others [] e in inl (k.1, ap undone_by k.0)
+follows entry others (inr (inr (p, e))) = let k = cons_is entry (Close p) others [] e in
+    inl (subst AreCommits (sym k.1) tt, (let none = ap length k.1 in omega (arith, none)), ap undone_by k.0)
+
+rest_commits : (others : List Entry) → AreCommits others → length others < MOST_COMMITS → IsRest others
+rest_commits [] are few = inl refl
+rest_commits (Commit p ∷ others) are few = inr (inl (are, omega (arith, few)))
+rest_commits others are few = absurd are
 
 rest_of : (entry : Entry) (others : List Entry) → Follows entry others → IsRest others
-rest_of entry others (inl k) = inl k.0
+rest_of entry others (inl k) = rest_commits others k.0 k.1
 rest_of entry others (inr (p, u, e)) = inr (inr (p, e))
 
 closes : (entry : Entry) (others : List Entry) (p : ℕ) → Follows entry others → undone_by entry ≡ Some p → others ≡ Close p ∷ []
-closes entry others p (inl k) u = let no : None ≡ Some p = sym k.1 ∙ u in absurd cc
+closes entry others p (inl k) u = let no : None ≡ Some p = sym k.2 ∙ u in absurd cc
 closes entry others p (inr (q, v, e)) u = let same : q ≡ p = same_some q p (sym v ∙ u) in e ∙ ap (λ (n : ℕ). Close n ∷ []) same
 
 -- ---- the history and its log

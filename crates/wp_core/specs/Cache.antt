@@ -1,10 +1,7 @@
 -- The commit cache: N words, of which a version has the one at its number modulo N.
-use Rattle.std.specs.Prelude.{ℕ, ◌%◌, List, length, slice_index, slice_set, Option}
+use Rattle.std.specs.Prelude.{ℕ, List, length, slice_index, slice_set, Option}
+pub use Rattle.wp_model.specs.CachePlace.{cache_place}
 use Rattle.wp_judge.specs.Words.{CommitPair, word_of, pair_of, decision_if}
-
--- the place of a version's word in a cache of so many words
-abbrev pub cache_place : ℕ → ℕ → ℕ
-cache_place words p = p % words
 
 -- the word at the place of a version
 abbrev pub cached_word : List ℕ → ℕ → ℕ

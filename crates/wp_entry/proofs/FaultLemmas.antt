@@ -8,6 +8,7 @@ use Rattle.std.proofs.lemmas.Bool.{eqb-true, eqb-false, ne_eqb, eq-eqb, lt-ltb, 
 use Rattle.wp_model.specs.declared.word.TheConstants.{MOST_NAME_BYTES}
 use Rattle.wp_model.specs.declared.entry.Entry.{Entry}
 use Rattle.wp_model.specs.declared.entry.Entry.TheVariants.{Write, Prepare, Commit, Undo, Close}
+use Rattle.wp_model.specs.Record.{AreCommits}
 use Rattle.wp_fields.specs.Reading.{◌>>=◌, byte_at, number_at, Gives}
 use Rattle.wp_fields.proofs.Results.{bind_err, chosen, either, err_is, ok_or_err, map_failed}
 use Rattle.wp_fields.proofs.FieldLemmas.{AreBytes, byte_takes, byte_fails, number_takes, number_fails, number_again, number_short, fields_of}
@@ -23,7 +24,7 @@ use Rattle.wp_entry.specs.declared.error.RecordError.{RecordError}
 use Rattle.wp_entry.specs.declared.error.RecordError.TheVariants.{Memory, Short, BadNumber, BadKind, BadWord, Extra}
 use Rattle.wp_entry.specs.Errors.{record_error, record_fault}
 use Rattle.wp_entry.specs.Faults.{HasNumberField, HasDue, IsEarlierFault, IsEntriesFault, write_batch, prepare_name, prepare_batch, commit_number, no_number_for_close, undo_number, undo_batch, no_count, count_out, group_number, IsCountOut, IsFaultInGroup, IsNoKind, IsFaultAfterKind, HasMore, IsRecordFault}
-use Rattle.wp_entry.specs.Record.{last_number, named_bytes, entries_bytes, record_bytes, NamesEarlier, AreCommits}
+use Rattle.wp_entry.specs.Record.{last_number, named_bytes, entries_bytes, record_bytes, NamesEarlier}
 use Rattle.wp_entry.specs.Reading.{name_in_record, batch_in_record, after_number, write_at, prepare_at, earlier_at, commit_at, rollback_at, commits_after, count_at, group_at, entries_at, record_at}
 use Rattle.wp_entry.proofs.Grammar.{Entries, name_takes, earlier_takes, commits_behind, count_in_range, count_takes, commits_counted, entries_take, number_takes_due, this_kind, another, kind_by_test, at_end, entries_to_end, kind_and_entries, last_fits}
 use Rattle.wp_entry.proofs.Spelled.{record_after_number, earlier_again, count_again, entries_again}

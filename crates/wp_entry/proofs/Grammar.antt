@@ -10,6 +10,7 @@ use Rattle.wp_model.specs.declared.word.TheConstants.{MOST_NAME_BYTES}
 use Rattle.wp_model.specs.declared.change.Change.{Change}
 use Rattle.wp_model.specs.declared.entry.Entry.{Entry}
 use Rattle.wp_model.specs.declared.entry.Entry.TheVariants.{Write, Prepare, Commit, Undo, Close}
+use Rattle.wp_model.specs.Record.{AreCommits}
 use Rattle.wp_model.specs.Word.{is_name}
 use Rattle.wp_fields.specs.Reading.{◌>>=◌, byte_at, number_at, Gives}
 use Rattle.wp_fields.proofs.Results.{bind_ok, ok_is, map_ok}
@@ -24,7 +25,7 @@ use Rattle.wp_encoding.proofs.ChangeLemmas as encoded
 use Rattle.wp_entry.specs.declared.error.RecordError.{RecordError}
 use Rattle.wp_entry.specs.declared.error.RecordError.TheVariants.{Short, BadNumber, BadKind, BadWord, Extra}
 use Rattle.wp_entry.specs.Errors.{record_error, record_fault}
-use Rattle.wp_entry.specs.Record.{last_number, named_bytes, entries_bytes, record_bytes, is_entry, IsEarlier, NamesEarlier, AreCommits, FormRecord, IsRecord}
+use Rattle.wp_entry.specs.Record.{last_number, named_bytes, entries_bytes, record_bytes, is_entry, IsEarlier, NamesEarlier, FormRecord, IsRecord}
 use Rattle.wp_entry.specs.Faults.{IsCount}
 use Rattle.wp_entry.specs.Reading.{name_in_record, batch_in_record, after_number, write_at, prepare_at, earlier_at, commit_at, rollback_at, commits_after, count_at, group_at, entries_at, record_at}
 
@@ -98,7 +99,7 @@ unfolding commit_at
 commit_takes format first bytes x small h e =
     let s = bind_ok (earlier_at format first bytes) (λ p. Ok (Commit p.0 ∷ [], p.1)) x e in
     let p = earlier_takes format first bytes s.0 h s.1 in
-    let found : BeginsRecord format first (3 ∷ bytes) (Commit s.0.0 ∷ [], s.0.1) = record { parts = Begins-then (3 ∷ bytes) (3 ∷ []) bytes (to_be_bytes (number_width format) s.0.0) s.0.1 (kind_begins 3 bytes h) p.0; is = record { form = record { one = tt; earlier = (p.1, tt); numbered = omega (arith, small) }; in_range = refl } } in
+    let found : BeginsRecord format first (3 ∷ bytes) (Commit s.0.0 ∷ [], s.0.1) = record { parts = Begins-then (3 ∷ bytes) (3 ∷ []) bytes (to_be_bytes (number_width format) s.0.0) s.0.1 (kind_begins 3 bytes h) p.0; is = record { form = record { one = (tt, omega arith); earlier = (p.1, tt); numbered = omega (arith, small) }; in_range = refl } } in
     rw (← ok_is {E = RecordError} (Commit s.0.0 ∷ [], s.0.1) x s.2) found
 
 rollback_takes : (format : Format) (first : ℕ) (bytes : List ℕ) (x : List Entry × List ℕ) → AreBytes bytes → rollback_at format first bytes ≡ Ok x → BeginsRecord format first (4 ∷ bytes) x

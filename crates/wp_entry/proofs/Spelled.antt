@@ -7,6 +7,7 @@ use Rattle.std.proofs.lemmas.List.{append-nil}
 use Rattle.wp_model.specs.declared.word.TheConstants.{MOST_NAME_BYTES}
 use Rattle.wp_model.specs.declared.entry.Entry.{Entry}
 use Rattle.wp_model.specs.declared.entry.Entry.TheVariants.{Write, Prepare, Commit, Undo, Close}
+use Rattle.wp_model.specs.Record.{AreCommits}
 use Rattle.wp_model.specs.Word.{is_name}
 use Rattle.wp_fields.proofs.FieldLemmas.{number_again, fields_of}
 use Rattle.wp_fields.specs.declared.format.Format.{Format}
@@ -15,7 +16,7 @@ use Rattle.wp_encoding.specs.Encoding.{word_bytes, batch_bytes, are_changes}
 use Rattle.wp_encoding.proofs.WordLemmas.{word_again}
 use Rattle.wp_encoding.proofs.ChangeLemmas.{batch_again}
 use Rattle.wp_entry.specs.declared.error.RecordError.TheVariants.{Short}
-use Rattle.wp_entry.specs.Record.{last_number, named_bytes, entries_bytes, record_bytes, IsEarlier, NamesEarlier, AreCommits, IsRecord}
+use Rattle.wp_entry.specs.Record.{last_number, named_bytes, entries_bytes, record_bytes, IsEarlier, NamesEarlier, IsRecord}
 use Rattle.wp_entry.specs.Faults.{IsCount}
 use Rattle.wp_entry.specs.Reading.{after_number, write_at, prepare_at, earlier_at, commit_at, rollback_at, commits_after, count_at, group_at, entries_at, record_at}
 use Rattle.wp_entry.proofs.Grammar.{first_numbered, last_fits, kind_and_entries}
@@ -84,6 +85,7 @@ entries_again format first (Commit p ∷ Commit q ∷ others) rest is =
 entries_again format first (Commit p ∷ []) rest is =
     let small = first_numbered format first _ is.form in
     record { kind = 3; fields = to_be_bytes (number_width format) p; spelled = refl; read = rw (earlier_again format first p rest small is.form.earlier.0) refl; small = small }
+entries_again format first (Commit p ∷ others) rest is = absurd is.form.one.0
 entries_again format first (Undo p batch ∷ Close q ∷ []) rest is =
     let entry = (and_parts (are_changes batch) true is.in_range).0 in
     let small = first_numbered format first _ is.form in

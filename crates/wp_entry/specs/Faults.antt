@@ -4,6 +4,8 @@ use Rattle.std.specs.Int.{byte_len, to_be_bytes}
 use Rattle.std.specs.List.{flat_map, AllByRecursion}
 use Rattle.wp_model.specs.declared.word.TheConstants.{MOST_NAME_BYTES}
 use Rattle.wp_model.specs.declared.entry.Entry.{Entry}
+use Rattle.wp_model.specs.declared.entry.TheConstants.{MOST_COMMITS}
+use Rattle.wp_model.specs.Record.{AreCommits}
 use Rattle.wp_model.specs.Word.{is_name}
 use Rattle.wp_fields.specs.declared.format.Format.{Format}
 use Rattle.wp_fields.specs.Format.{number_width, number_end}
@@ -11,10 +13,9 @@ use Rattle.wp_encoding.specs.declared.error.EncodingError.{EncodingError}
 use Rattle.wp_encoding.specs.declared.error.EncodingError.TheVariants as encoding
 use Rattle.wp_encoding.specs.Encoding.{word_bytes}
 use Rattle.wp_encoding.specs.Faults.{IsWordFault, IsBatchFault}
-use Rattle.wp_entry.specs.declared.layout.TheConstants.{MOST_COMMITS}
 use Rattle.wp_entry.specs.declared.error.RecordError.{RecordError}
 use Rattle.wp_entry.specs.declared.error.RecordError.TheVariants.{Memory, Short, BadNumber, BadKind, BadWord, Extra}
-use Rattle.wp_entry.specs.Record.{last_number, named_bytes, record_bytes, IsEarlier, NamesEarlier, AreCommits, IsRecord}
+use Rattle.wp_entry.specs.Record.{last_number, named_bytes, record_bytes, IsEarlier, NamesEarlier, IsRecord}
 
 -- the number is there, and bytes after it
 pub record HasNumberField (format : Format) (bytes : List ℕ) (number : ℕ) (rest : List ℕ) : Type 0 where

@@ -4,11 +4,11 @@ use Rattle.wp_model.specs.declared.word.TheConstants.{MOST_NAME_BYTES}
 use Rattle.wp_model.specs.declared.change.Change.{Change}
 use Rattle.wp_model.specs.declared.entry.Entry.{Entry}
 use Rattle.wp_model.specs.declared.entry.Entry.TheVariants.{Write, Prepare, Commit, Undo, Close}
+use Rattle.wp_model.specs.declared.entry.TheConstants.{MOST_COMMITS}
 use Rattle.wp_fields.specs.Reading.{◌>>=◌, map_err, byte_at, number_at}
 use Rattle.wp_fields.specs.declared.format.Format.{Format}
 use Rattle.wp_fields.specs.Format.{number_width}
 use Rattle.wp_encoding.specs.Reading as encoding
-use Rattle.wp_entry.specs.declared.layout.TheConstants.{MOST_COMMITS}
 use Rattle.wp_entry.specs.declared.error.RecordError.{RecordError}
 use Rattle.wp_entry.specs.declared.error.RecordError.TheVariants.{Short, BadNumber, BadKind, BadWord, Extra}
 use Rattle.wp_entry.specs.Errors.{record_error}

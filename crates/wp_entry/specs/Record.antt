@@ -10,7 +10,6 @@ use Rattle.wp_fields.specs.declared.format.Format.{Format}
 use Rattle.wp_fields.specs.declared.format.Format.TheVariants.{One, Two}
 use Rattle.wp_fields.specs.Format.{number_width}
 use Rattle.wp_encoding.specs.Encoding.{word_bytes, batch_bytes, are_changes}
-use Rattle.wp_entry.specs.declared.layout.TheConstants.{MOST_COMMITS}
 
 -- ---- numbers
 
@@ -65,20 +64,10 @@ NamesEarlier first (Undo p batch) = IsEarlier first p
 NamesEarlier first (Close p) = IsEarlier first p
 NamesEarlier first other = Unit {0}
 
-abbrev pub AreCommits : List Entry → Type 0
-AreCommits [] = Unit {0}
-AreCommits (Commit p ∷ others) = AreCommits others
-AreCommits others = ⊥
-
--- These entries share a record: one entry, an Undo with its Close, or a group of 2 to 16 Commits.
-abbrev pub ShareRecord : List Entry → Type 0
-ShareRecord (Commit p ∷ Commit q ∷ others) = AreCommits others × (length others + 2 ≤ MOST_COMMITS)
-ShareRecord others = IsOneRecord others
-
 -- These entries share one record in a log, where the first has that number. All numbers are numbers of entries in this
 -- version of the format, and what is named comes before the first.
 pub record FormRecord (format : Format) (first : ℕ) (entries : List Entry) : Type 0 where
-  pub one : ShareRecord entries
+  pub one : IsOneRecord entries
   pub earlier : AllByRecursion (NamesEarlier first) entries
   pub numbered : first + length entries ≤ last_number format + 1
 

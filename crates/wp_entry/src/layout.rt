@@ -21,9 +21,6 @@ pub(crate) const ROLLBACK: u8 = 4;
 /// The kind of the record of a group of Commits.
 pub(crate) const GROUP: u8 = 6;
 
-/// So many Commits a group has at most.
-pub(crate) const MOST_COMMITS: u8 = 16;
-
 /// The last number that an entry may have: the last one that fits in four bytes, or 2^56 - 1.
 pub(crate) fn last_number(format: Format) -> Seq
     ensures { result ≡ last_number format }

@@ -8,11 +8,11 @@ ghost use Rattle.wp_entry.specs.Record.{last_number, IsRecord, record_bytes};
 ghost use Rattle.wp_entry.specs.Reading.{after_number, write_at, prepare_at, earlier_at, commit_at, rollback_at, commits_after, count_at, group_at, entries_at, record_at};
 
 use crate::error::RecordError;
-use crate::layout::{COMMIT, GROUP, MOST_COMMITS, PREPARE, ROLLBACK, WRITE, last_number};
+use crate::layout::{COMMIT, GROUP, PREPARE, ROLLBACK, WRITE, last_number};
 use std::alloc::Global;
 use wp_encoding::{read_batch, read_word};
 use wp_fields::{Fields, Format};
-use wp_model::{Entry, Seq};
+use wp_model::{Entry, MOST_COMMITS, Seq};
 
 #[tactic(auto, unfolding(crate::specs::Reading::after_number))]
 fn due_number(fields: &mut Fields<'_>, format: Format, due: Seq) -> Result<(), RecordError>
@@ -95,7 +95,10 @@ fn group_count(fields: &mut Fields<'_>, format: Format, due: Seq) -> Result<u8, 
     ensures { Gives record_fault (λ count. (count, fields.new)) result (count_at format due fields.old) }
 {
     let count = fields.u8().ok_or(RecordError::Short)?;
-    if count < 2 || count > MOST_COMMITS || due + u64::from(count) > last_number(format) + 1 {
+    if count < 2
+        || usize::from(count) > MOST_COMMITS
+        || due + u64::from(count) > last_number(format) + 1
+    {
         return Err(RecordError::BadWord);
     }
     Ok(count)

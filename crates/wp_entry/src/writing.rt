@@ -1,6 +1,6 @@
 ghost use Rattle.std.specs.Prelude.{◌≡◌, ◌<◌, ◌≤◌, ◌^◌, true, ◌++◌, OnOk};
 ghost use Rattle.std.specs.List.{flat_map, list_all, AllByRecursion};
-ghost use Rattle.wp_entry.specs.Record.{last_number, named_bytes, entries_bytes, record_bytes, is_entry, NamesEarlier, AreCommits, FormRecord, IsRecord};
+ghost use Rattle.wp_entry.specs.Record.{last_number, named_bytes, entries_bytes, record_bytes, is_entry, NamesEarlier, FormRecord, IsRecord};
 
 use crate::layout::{COMMIT, GROUP, PREPARE, ROLLBACK, WRITE};
 use std::alloc::AllocError;

@@ -1,11 +1,10 @@
 -- Numbers that ascend: how one of them is found, and what is left without it.
-use Rattle.std.proofs.Common.{◌≡◌, ◌≢◌, ℕ, zero, suc, ◌+◌, ◌-◌, ◌<◌, ◌≤◌, Bool, true, false, ◌||◌, not, cond, eqb, List, [], ◌∷◌, ◌++◌, length, get_or, take, Result, Ok, Err, refl, sym, ap, ◌∙◌, subst, inl, inr, length-append, arith}
+use Rattle.std.proofs.Common.{◌≡◌, ◌≢◌, ℕ, zero, suc, ◌+◌, ◌<◌, ◌≤◌, Bool, true, false, ◌||◌, not, cond, eqb, List, [], ◌∷◌, length, get_or, Result, Ok, Err, refl, sym, ap, ◌∙◌, subst, inl, inr, arith}
 use Rattle.std.specs.Result.{MatchResult, is_ok}
-use Rattle.std.specs.List.{AllByRecursion, filter, list_any, range_with_len, insert, remove}
+use Rattle.std.specs.List.{AllByRecursion, filter, list_any, range_with_len, remove}
 use Rattle.std.specs.List.Sorted.{IsBinarySearchResult}
 use Rattle.std.specs.Ordering.{nat_cmp}
-use Rattle.std.proofs.lemmas.Bool.{cases_eq, cases_lt, eq-eqb, ne_eqb}
-use Rattle.std.proofs.Math.Seq.{take-append_seam}
+use Rattle.std.proofs.lemmas.Bool.{cases_lt, eq-eqb, ne_eqb}
 use Rattle.std.proofs.lemmas.List.Folds.{list_any_at}
 use Rattle.std.proofs.lemmas.List.Sorted.{searched}
 use Rattle.wp_model.specs.declared.entry.Entry.{Entry}
@@ -118,84 +117,3 @@ among ps p (Err i) place = sym (not_among ps p (between ps p i place.1 place.2))
 
 pub is_found : (history : List Entry) (numbers : List ℕ) (p : ℕ) (r : Result ℕ ℕ) → numbers ≡ undecided history → IsBinarySearchResult (λ q. nat_cmp q p) numbers r → is_ok r ≡ is_undecided history p
 is_found history numbers p r are finds = among (undecided history) p r (place_of (undecided history) p numbers r r (undecided_ascend history) are finds refl) ∙ is_undecided_by_list history p
-
--- ---- one put back
-
--- one that is among numbers above another is above it
-among_above : (p q : ℕ) (qs : List ℕ) → AllByRecursion (λ r. q < r) qs → list_any (λ r. eqb r p) qs ≡ true → q < p
-among_above p q [] above any = absurd cc
-among_above p q (r ∷ rs) above any = elim (cases_eq r p) [
-  | inl same ↦ let lt = above.0 in omega (arith, same, lt)
-  | inr other ↦ among_above p q rs above.1 (sym (ap (λ (b : Bool). b || list_any (λ s. eqb s p) rs) (ne_eqb r p other)) ∙ any)
-]
-
--- where it is searched for among what is left, it goes back to its place
-put_back : (before : List ℕ) (p i : ℕ) → AreAscending before → list_any (λ q. eqb q p) before ≡ true → IsPlace (without_decided before p) p (Err i) → insert (without_decided before p) i p ≡ before
-put_back [] p i ascend any place = absurd cc
-put_back (q ∷ qs) p i ascend any place = elim (cases_eq q p) [
-  | inl same ↦
-      let without : without_decided (q ∷ qs) p ≡ qs = taken q qs p same ∙ subst (λ (r : ℕ). without_decided qs r ≡ qs) same (all_left q qs ascend.0) in
-      let at : IsPlace qs p (Err i) = subst (λ (ps : List ℕ). IsPlace ps p (Err i)) without place in
-      ap (λ (ps : List ℕ). insert ps i p) without ∙ first qs i ascend.0 at same
-  | inr other ↦
-      let rest : list_any (λ r. eqb r p) qs ≡ true = sym (ap (λ (b : Bool). b || list_any (λ r. eqb r p) qs) (ne_eqb q p other)) ∙ any in
-      let low : q < p = among_above p q qs ascend.0 rest in
-      let at : IsPlace (q ∷ without_decided qs p) p (Err i) = subst (λ (ps : List ℕ). IsPlace ps p (Err i)) (left q qs p other) place in
-      ap (λ (ps : List ℕ). insert ps i p) (left q qs p other) ∙ further i low at (λ k next. put_back qs p k ascend.1 rest next)
-]
-  where
-    first : (rs : List ℕ) (j : ℕ) → AllByRecursion (λ r. q < r) rs → IsPlace rs p (Err j) → q ≡ p → insert rs j p ≡ q ∷ rs
-    first rs zero above at same = ap (λ (r : ℕ). r ∷ rs) (sym same)
-    first [] (suc j) above at same = let within = at.0 in absurd (omega (arith, within))
-    first (r ∷ rs) (suc j) above at same = let lt = above.0 in let less = at.1 0 (omega arith) in absurd (omega (arith, lt, less, same))
-
-    further : (j : ℕ) → q < p → IsPlace (q ∷ without_decided qs p) p (Err j) → ((k : ℕ) → IsPlace (without_decided qs p) p (Err k) → insert (without_decided qs p) k p ≡ qs) → insert (q ∷ without_decided qs p) j p ≡ q ∷ qs
-    further zero low at rest = let more = at.2 0 (omega arith) (omega arith) in absurd (omega (arith, low, more))
-    further (suc j) low at rest =
-        let next : IsPlace (without_decided qs p) p (Err j) = ((let within = at.0 in omega (arith, within)), (λ k lt. at.1 (suc k) (omega (arith, lt))), (λ k from lt. at.2 (suc k) (omega (arith, from)) (omega (arith, lt)))) in
-        ap (λ (rs : List ℕ). q ∷ rs) (rest j next)
-
--- what was taken out is nowhere
-is_nowhere : (before : List ℕ) (p : ℕ) → IsNowhere (without_decided before p) p
-is_nowhere [] p i lt = absurd (omega arith)
-is_nowhere (q ∷ qs) p i lt = elim (cases_eq q p) [
-  | inl same ↦ subst (λ (ps : List ℕ). i < length ps → get_or ps i 0 ≢ p) (sym (taken q qs p same)) (is_nowhere qs p i) lt
-  | inr other ↦ subst (λ (ps : List ℕ). i < length ps → get_or ps i 0 ≢ p) (sym (left q qs p other)) (later i other (is_nowhere qs p)) lt
-]
-  where
-    later : (j : ℕ) → q ≢ p → IsNowhere (without_decided qs p) p → j < length (q ∷ without_decided qs p) → get_or (q ∷ without_decided qs p) j 0 ≢ p
-    later zero other rest lt = other
-    later (suc j) other rest lt = rest j (omega (arith, lt))
-
-no_more : (ps : List ℕ) (p : ℕ) → length (without_decided ps p) ≤ length ps
-no_more [] p = omega arith
-no_more (q ∷ qs) p = let rest = no_more qs p in elim (cases_eq q p) [
-  | inl same ↦ let e : length (without_decided (q ∷ qs) p) ≡ length (without_decided qs p) = ap length (taken q qs p same) in omega (arith, e, rest)
-  | inr other ↦ let e : length (without_decided (q ∷ qs) p) ≡ suc (length (without_decided qs p)) = ap length (left q qs p other) in omega (arith, e, rest)
-]
-
-pub one_fewer : (before : List ℕ) (p : ℕ) → list_any (λ q. eqb q p) before ≡ true → length (without_decided before p) < length before
-one_fewer [] p any = absurd cc
-one_fewer (q ∷ qs) p any = elim (cases_eq q p) [
-  | inl same ↦ let e : length (without_decided (q ∷ qs) p) ≡ length (without_decided qs p) = ap length (taken q qs p same) in let rest = no_more qs p in omega (arith, e, rest)
-  | inr other ↦
-      let e : length (without_decided (q ∷ qs) p) ≡ suc (length (without_decided qs p)) = ap length (left q qs p other) in
-      let rest = one_fewer qs p (sym (ap (λ (b : Bool). b || list_any (λ r. eqb r p) qs) (ne_eqb q p other)) ∙ any) in
-      omega (arith, e, rest)
-]
-
-pub left_ascend : (before : List ℕ) (p : ℕ) → AreAscending before → AreAscending (without_decided before p)
-left_ascend before p ascend = some_ascend (λ q. not (eqb q p)) before ascend
-
--- what a search for it answers where it was taken out
-pub put_back_there : (before ps : List ℕ) (p i : ℕ) → ps ≡ without_decided before p → AreAscending before → list_any (λ q. eqb q p) before ≡ true → IsPlace ps p (Err i) → insert ps i p ≡ before
-put_back_there before ps p i is ascend any place = ap (λ (qs : List ℕ). insert qs i p) is ∙ put_back before p i ascend any (subst (λ (qs : List ℕ). IsPlace qs p (Err i)) is place)
-
-pub never_there : (before ps : List ℕ) (p i : ℕ) → ps ≡ without_decided before p → IsPlace ps p (Ok i) → ⊥
-never_there before ps p i is place = let at = subst (λ (qs : List ℕ). IsPlace qs p (Ok i)) is place in is_nowhere before p i at.0 at.1
-
--- without the last one
-pub last_off : (front numbers left : List ℕ) (n k : ℕ) → numbers ≡ front ++ n ∷ [] → k ≡ length numbers → left ≡ take (k - 1) numbers → left ≡ front
-last_off front numbers left n k is count rest =
-    let size : k - 1 ≡ length front = let e = ap length is in omega (arith, e, count, length-append front (n ∷ [])) in
-    rest ∙ (λ i. take (size i) (is i)) ∙ take-append_seam front (n ∷ [])

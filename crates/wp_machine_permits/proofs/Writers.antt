@@ -102,7 +102,7 @@ put_k = only_key (Put k (codes "v"))
 pub commit_met : (m : Snapshots) (registered : List Registration) → AreMet commit (with_snapshots prepared_world m 0 registered)
 commit_met m registered =
     (refl, (refl, refl))
-    ▹ (refl, (refl, refl, tt, committed_legal, inl refl))
+    ▹ (refl, (refl, refl, (tt, omega arith), committed_legal, inl refl))
     ▹ (refl, (refl, some_entry (Commit 1) [], refl, refl))
     ▹ (refl, (refl, refl, refl, λ gone e. absurd (some_none gone (sym e))))
     ▹ (

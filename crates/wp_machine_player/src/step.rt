@@ -202,10 +202,12 @@ fn batch_step(alloc: Global, by: usize, rest: &str) -> Tried<Step> {
     Ok(Step { by, kind })
 }
 
-/// Reads `write-pend ENTRY`.
+/// Reads `write-pend ENTRY`, or several entries with ` + ` between each two.
 fn pending_step(alloc: Global, by: usize, rest: &str) -> Tried<Step> {
-    let mut entries = Vec::with_capacity(alloc, 1)?;
-    entries.push(entry_of(alloc, rest)?)?;
+    let mut entries = Vec::new(alloc);
+    for entry in rest.split(" + ") {
+        entries.push(entry_of(alloc, entry)?)?;
+    }
     let kind = Kind::Write(WriteStep::MakePending(entries));
     Ok(Step { by, kind })
 }

@@ -11,3 +11,4 @@ pub mod Ordered
 pub mod Rows
 pub mod RowLaws
 pub mod WordOrder
+pub mod CachePlaces

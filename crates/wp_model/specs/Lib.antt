@@ -2,6 +2,7 @@ pub mod Word
 pub mod WordBytes
 pub mod Batch
 pub mod Place
+pub mod CachePlace
 pub mod History
 pub mod Changed
 pub mod Legal

@@ -8,6 +8,9 @@ use crate::change::Change;
 use crate::word::Name;
 use std::alloc::{AllocError, Global};
 
+/// How many Commits share one record at most.
+pub const MOST_COMMITS: usize = 16;
+
 /// One entry of a history. The n-th has the number n, from 1 on.
 #[derive(Drop)]
 pub enum Entry {

@@ -22,7 +22,7 @@ mod word_bytes;
 pub use batch::{Batch, MOST_KEYS, SetError};
 pub use carried::Carried;
 pub use change::Change;
-pub use entry::Entry;
+pub use entry::{Entry, MOST_COMMITS};
 pub use holder::Holder;
 pub use limits::limits_are;
 pub use row::Row;

@@ -79,7 +79,7 @@ fn fits(outline: &Outline, holders: &Holders, version: &Version) -> bool
 }
 
 /// Whether none of the versions has a fixed number.
-fn are_free(outline: &Outline, versions: &[Version]) -> bool
+fn none_fixed(outline: &Outline, versions: &[Version]) -> bool
     ensures { result ≡ list_all (λ v. not (is_fixed outline.now v.number)) versions.now }
 {
     versions
@@ -104,7 +104,7 @@ fn are_below(alloc: Global, outline: &Outline, versions: &Versions) -> Result<bo
     ensures in_order { AreInOrder versions.now }
 {
     let versions = versions.as_slice();
-    if are_free(outline, versions) {
+    if none_fixed(outline, versions) {
         return Ok(true);
     }
     let holders = outline.carried_holders(alloc)?;

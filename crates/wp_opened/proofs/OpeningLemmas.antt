@@ -13,8 +13,6 @@ use Rattle.std.specs.List.Sorted.{IsStrictlyIncreasing}
 use Rattle.std.specs.Option.{option_or}
 use Rattle.std.specs.Ordering.{nat_cmp}
 use Rattle.wp_model.specs.declared.entry.Entry.{Entry}
-use Rattle.wp_model.specs.declared.entry.Entry.TheVariants.{Commit}
-use Rattle.wp_entry.specs.Record.{AreCommits, ShareRecord}
 use Rattle.wp_model.specs.declared.version.Version.{Version}
 use Rattle.wp_model.specs.Covered.{IsCovered, is_among}
 use Rattle.wp_model.specs.Flushed.{InstalledEdit, IsEditCovered, later_versions}
@@ -74,20 +72,10 @@ closes_after : (front rest : List Entry) → undone_last front ≡ None → undo
 closes_after front [] closed rest_closed = ap undone_last (append-nil front) ∙ closed
 closes_after front (e ∷ rest) closed rest_closed = undone_after front rest e ∙ rest_closed
 
-commits_close : (entries : List Entry) → AreCommits entries → undone_last entries ≡ None
-commits_close [] are = refl
-commits_close (Commit p ∷ []) are = refl
-commits_close (Commit p ∷ Commit q ∷ others) are = commits_close (Commit q ∷ others) are
-commits_close others are = absurd are
-
-record_closes : (entries : List Entry) → ShareRecord entries → undone_last entries ≡ None
-record_closes (Commit p ∷ Commit q ∷ others) one = commits_close (Commit q ∷ others) one.0
-record_closes others one = one_closes others one
-
 all_close : (format : Format) (first : ℕ) (records : List (List ℕ)) (entries : List Entry) → AreEntries format first records entries → undone_last entries ≡ None
 all_close format first [] entries is = ap undone_last is
 all_close format first (r ∷ records) entries (front, rest, parts, is, bytes, more) =
-    ap undone_last parts ∙ closes_after front rest (record_closes front is.form.one) (all_close format (first + length front) records rest more)
+    ap undone_last parts ∙ closes_after front rest (one_closes front is.form.one) (all_close format (first + length front) records rest more)
 
 cut_closes : (format : Format) (place : ℕ) (records : List (List ℕ)) (c : Cut) → AreCut format place records c → undone_last c.entries ≡ None
 cut_closes One place records c (none, nothing, are, there) = all_close One 1 records c.entries are

@@ -1,23 +1,23 @@
 -- What is so of a log, call by call.
 use Rattle.std.proofs.Common.{◌≡◌, ◌≢◌, ◌⊎◌, inl, inr, ℕ, ◌+◌, ◌-◌, ◌<◌, ◌≤◌, Bool, true, false, true≢false, List, [], ◌∷◌, ◌++◌, length, take, Option, Some, None, IfSome, slice_index_or, if◌then◌else◌, refl, sym, ap, ◌∙◌, subst, append-nil, append_assoc, take_all, arith}
 use Rattle.std.specs.List.{remove, AllByRecursion}
-use Rattle.std.proofs.lemmas.Bool.{cases_Bool, eq-eqb, ne_eqb}
+use Rattle.std.proofs.lemmas.Bool.{cases_Bool, cases_lt, eq-eqb, ne_eqb}
 use Rattle.std.proofs.lemmas.List.{drop_all}
 use Rattle.wp_model.specs.declared.entry.Entry.{Entry}
 use Rattle.wp_model.specs.declared.entry.Entry.TheVariants as entry
 use Rattle.wp_model.specs.declared.segment.Segment.{Segment}
-use Rattle.wp_model.specs.History.{is_undecided}
+use Rattle.wp_model.specs.History.{entry_at, is_prepare, is_undecided}
 use Rattle.wp_model.specs.Legal.{IsLegal, IsLegalNext, undone_last}
-use Rattle.wp_model.proofs.Entries.{undecided_within}
+use Rattle.wp_model.proofs.Entries.{entry_at_old, prepared_within, undecided_prepared, undecided_within}
 use Rattle.wp_cuts.specs.Cut.{Cut, IsCut, carried_of, cut_at}
 use Rattle.wp_cuts.proofs.Growing.{cut_again, cut_grows, entries_long}
-use Rattle.wp_history_laws.proofs.Growth.{after_front, legal_before}
+use Rattle.wp_history_laws.proofs.Growth.{after_front, entry_at_next, legal_before, length_next}
 use Rattle.wp_outside.specs.Disk.{Moment, IfKnown, images}
 use Rattle.wp_outside.specs.Faults.{Rose}
 use Rattle.wp_fields.specs.declared.format.Format.{Format}
 use Rattle.wp_fields.specs.declared.format.Format.TheVariants.{Two}
 use Rattle.wp_entry.specs.Base.{Base}
-use Rattle.wp_entry.specs.Record.{ShareRecord, FormRecord, IsRecord, IsEarlier, NamesEarlier, last_number}
+use Rattle.wp_entry.specs.Record.{FormRecord, IsRecord, IsEarlier, NamesEarlier, last_number}
 use Rattle.wp_gatelog.specs.declared.log.AppendError.TheVariants.{DiskFault}
 use Rattle.wp_gatelog.specs.Moments.{Leaves}
 use Rattle.wp_gatelog.proofs.DurabilityLemmas.{preserves_on}
@@ -25,7 +25,7 @@ use Rattle.wp_wal.specs.Segment.{WrittenState, IsBeside, IsPlaceFor, base_of, cu
 use Rattle.wp_wal.specs.Spelling.{IsLogAt, longer}
 use Rattle.wp_wal.specs.Wal.{WalState, Reserved, LeavesCut, LosesNothingAt, StoresCut, IsReserved, Appended, Refuses, reserved_of}
 use Rattle.wp_wal.proofs.AppendLemmas.{running_cut}
-use Rattle.wp_model.specs.Record.{IsOneRecord}
+use Rattle.wp_model.specs.Record.{AreCommits, IsOneRecord}
 use Rattle.wp_core.specs.Images.{MaySpell, LogTells}
 use Rattle.wp_model.proofs.Tests.{none_some, same_some}
 use Rattle.wp_parts.specs.Log.{Ending, format_at, log_state, open_ending, spelled, spells, with_next, with_segment, IsKept, IsLog, IsWaiting}
@@ -47,23 +47,40 @@ rose_since first old new later rose = omega (arith, later, rose)
 earlier : (history : List Entry) (p : ℕ) → is_undecided history p ≡ true → IsEarlier (length history + 1) p
 earlier history p is = let within = undecided_within history p is in record { from = within.0; below = omega (arith, within.1) }
 
+-- a Commit more prepares nothing
+commit_prepares : (history : List Entry) (p q : ℕ) → is_prepare (entry_at (history ++ entry.Commit p ∷ []) q) ≡ true → is_prepare (entry_at history q) ≡ true
+commit_prepares history p q is =
+    let within = prepared_within (history ++ entry.Commit p ∷ []) q is in let long = length_next history (entry.Commit p) in
+    elim (cases_lt (length history) q) [
+      | inr le ↦ ap is_prepare (sym (entry_at_old history (entry.Commit p ∷ []) q le)) ∙ is
+      | inl past ↦
+          let last : q ≡ length history + 1 = omega (arith, within.1, long, past) in
+          absurd (true≢false (sym is ∙ ap (λ (n : ℕ). is_prepare (entry_at (history ++ entry.Commit p ∷ []) n)) last ∙ ap is_prepare (entry_at_next history (entry.Commit p))))
+    ]
+
+-- what Commits name behind a history whose prepares have numbers up to this one
+commits_earlier : (n : ℕ) (history commits : List Entry) → ((p : ℕ) → is_prepare (entry_at history p) ≡ true → (1 ≤ p) × (p ≤ n)) → AreCommits commits → IsLegal (history ++ commits) → AllByRecursion (NamesEarlier (n + 1)) commits
+commits_earlier n history [] within are legal = tt
+commits_earlier n history (entry.Commit p ∷ others) within are legal =
+    let low = within p (undecided_prepared history p (after_front history (entry.Commit p) others legal).orderly.names_undecided) in (
+      record { from = low.0; below = omega (arith, low.1) },
+      commits_earlier n (history ++ entry.Commit p ∷ []) others (λ q is. within q (commit_prepares history p q is)) are (subst IsLegal (sym (append_assoc history (entry.Commit p ∷ []) others)) legal),
+    )
+commits_earlier n history others within are legal = absurd are
+
 -- what is named in a record that may come next is in the history
 earlier_next : (history entries : List Entry) → IsOneRecord entries → IsLegal (history ++ entries) → AllByRecursion (NamesEarlier (length history + 1)) entries
 earlier_next history (entry.Write batch ∷ []) one legal = (tt, tt)
 earlier_next history (entry.Prepare name batch ∷ []) one legal = (tt, tt)
-earlier_next history (entry.Commit p ∷ []) one legal = (earlier history p (after_front history (entry.Commit p) [] legal).orderly.names_undecided, tt)
+earlier_next history (entry.Commit p ∷ others) one legal = commits_earlier (length history) history (entry.Commit p ∷ others) (prepared_within history) one.0 legal
 earlier_next history (entry.Undo p batch ∷ entry.Close q ∷ []) one legal =
     let first = earlier history p (after_front history (entry.Undo p batch) (entry.Close q ∷ []) legal).orderly.names_undecided in
     (first, (subst (IsEarlier (length history + 1)) one first, tt))
 earlier_next history others one legal = absurd one
 
-one_shares : (entries : List Entry) → IsOneRecord entries → ShareRecord entries
-one_shares (entry.Commit p ∷ entry.Commit q ∷ others) one = absurd one
-one_shares others one = one
-
 -- one record that may come next, whose numbers are those of entries in this version, is one of it
 pub form_next : (format : Format) (history entries : List Entry) → IsOneRecord entries → IsLegal (history ++ entries) → length history + length entries ≤ last_number format → FormRecord format (length history + 1) entries
-form_next format history entries one legal within = record { one = one_shares entries one; earlier = earlier_next history entries one legal; numbered = omega (arith, within) }
+form_next format history entries one legal within = record { one = one; earlier = earlier_next history entries one legal; numbered = omega (arith, within) }
 
 -- ---- what the log spells
 
@@ -437,6 +454,9 @@ module _ (wal first : WalState) (history pending : List Entry) (logged : Bool) (
 
       pub appended_faults : IfSome wal.reserved (Appended wal new) → new.faults ≡ wal.faults
       appended_faults ok = ap (λ (w : WalState). w.faults) (is_appended ok).changed
+
+      pub appended_count : IfSome wal.reserved (Appended wal new) → new.count ≡ wal.count + 1
+      appended_count ok = ap (λ (w : WalState). w.count) (is_appended ok).changed
 
       pub appended_table : IfSome wal.reserved (Appended wal new) → (log_state new first history pending true ending).state ≡ record (log_state wal first history pending logged ending).state { logged = true; log = spelled logged history pending ++ pending }
       appended_table ok =

@@ -116,6 +116,10 @@ abbrev pub LeavesHistoryOrNext : LogState → LogState → Type 0
 LeavesHistoryOrNext old new =
     (c : Cut) → IsCut old.state.history c → c.base ≡ old.state.segment.base → Passes (Leaves (IsLogOrNextAt old.wal.id old.state.segment.place c old.state.pending)) old.wal.moments new.wal.moments
 
+-- the log has one record more
+abbrev pub HasOneMore : LogState → LogState → Type 0
+HasOneMore old new = new.wal.count ≡ old.wal.count + 1
+
 -- what each crash at one moment would leave acknowledged there, each crash at a later moment leaves too
 abbrev pub KeepsAcknowledged : LogState → LogState → Type 0
 KeepsAcknowledged old new = LosesNothingAt old.state.segment.place old.wal.moments new.wal.moments

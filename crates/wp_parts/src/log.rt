@@ -15,7 +15,7 @@ ghost use Rattle.wp_core.specs.Effects.{with_entry};
 ghost use Rattle.wp_model.specs.Record.{IsOneRecord};
 ghost use Rattle.wp_core.specs.Images.{LogTells};
 ghost use Rattle.wp_core.specs.States.{writes};
-ghost use Rattle.wp_parts.specs.Log.{IsLog, KeepsAcknowledged, LeavesHistory, LeavesHistoryOrNext, MayRenew, IsPlaceOf, IsSegmentOf, IsWaiting, WaitsApart, log_state, open_ending, spells, with_logged, with_lost, with_next, with_segment};
+ghost use Rattle.wp_parts.specs.Log.{HasOneMore, IsLog, KeepsAcknowledged, LeavesHistory, LeavesHistoryOrNext, MayRenew, IsPlaceOf, IsSegmentOf, IsWaiting, WaitsApart, log_state, open_ending, spells, with_logged, with_lost, with_next, with_segment};
 
 use crate::base::end_of;
 use crate::turn_value::TurnValue;
@@ -186,6 +186,7 @@ impl<D: Disk> Log<D> {
         requires some { self.old.state.pending ≢ [] }
         requires unlogged { self.old.state.logged ≡ false }
         ensures ok { OnOk result (self.new.state ≡ with_logged self.old.state) }
+        ensures counted { OnOk result (HasOneMore self.old self.new) }
         ensures err { OnErr result (self.new.state ≡ with_lost self.old.state) }
         ensures cause { OnErr result (Rose self.old.wal.faults self.new.wal.faults) }
         ensures unfailed { OnOk result (self.new.wal.faults ≡ self.old.wal.faults) }

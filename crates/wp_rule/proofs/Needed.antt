@@ -8,6 +8,7 @@ use Rattle.std.proofs.lemmas.Slice.Eq.{bytes_eq-Decides}
 use Rattle.wp_model.specs.declared.entry.Entry.{Entry}
 use Rattle.wp_model.specs.declared.entry.Entry.TheVariants.{Write, Prepare, Commit, Undo, Close}
 use Rattle.wp_model.specs.declared.holder.Holder.TheVariants.{Txn, Client}
+use Rattle.wp_model.specs.declared.entry.TheConstants.{MOST_COMMITS}
 use Rattle.wp_model.specs.Decision.{decision_of, version_in}
 use Rattle.wp_model.specs.Flushed.{InstalledEdit, IsEditCovered}
 use Rattle.wp_model.specs.History.{entry_at, name_at, batch_at, named, is_changed, is_prepare, holder_of}
@@ -76,8 +77,7 @@ decided_before n (entry ∷ entries) pair there = by_pair (pair_by n entry) refl
         by_entry (Prepare name batch) x e = absurd (none_some None x refl e)
     by_pair (Some first) is later (inr there) = let low = later there in omega (arith, low)
 
--- a record has at most two entries
-rest_short : (entries : List Entry) → IsRest entries → length entries ≤ 2
+rest_short : (entries : List Entry) → IsRest entries → length entries ≤ MOST_COMMITS
 rest_short entries (inl none) = let e = ap length none in omega (arith, e)
 rest_short entries (inr (inl one)) = one_short entries one
 rest_short entries (inr (inr closes)) = let e = ap length closes.1 in omega (arith, e)

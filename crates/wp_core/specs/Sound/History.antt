@@ -11,7 +11,7 @@ abbrev pub logged_part : Bool → List Entry → List Entry
 logged_part true pending = pending
 logged_part false pending = []
 
--- a record, what is left of it after an Undo, or nothing
+-- a record, as what is left of a group is too; what is left of one after an Undo; or nothing
 abbrev pub IsRest : List Entry → Type 0
 IsRest entries = (entries ≡ []) ⊎ (IsOneRecord entries ⊎ ((p : ℕ) × (entries ≡ Close p ∷ [])))
 

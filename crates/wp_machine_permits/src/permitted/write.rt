@@ -3,7 +3,7 @@ ghost use Rattle.std.specs.Prelude.{◌≡◌, ◌≢◌, ◌<◌, ◌↔◌, �
 ghost use Rattle.wp_core.specs.World.{Actor, published};
 ghost use Rattle.wp_core.specs.Cache.{cached};
 ghost use Rattle.wp_core.specs.Conditions.{MayLog, MayClose, MayDrop, MayWriteSegment, MayUseSegment, MayStop};
-ghost use Rattle.wp_model.specs.Record.{IsOneRecord};
+ghost use Rattle.wp_model.specs.Record.{AreCommits, IsOneRecord};
 ghost use Rattle.wp_core.specs.Entries.{pending_pair};
 ghost use Rattle.wp_core.specs.Steps as step;
 ghost use Rattle.wp_model.specs.Legal.{IsLegal};
@@ -15,7 +15,7 @@ use crate::needs::{cached, is_next_segment, is_undelayed, none_at};
 use crate::permitted::history::{add_all, history_of};
 use std::alloc::AllocError;
 use wp_machine::{Turn, World, WriteStep};
-use wp_model::{Entry, Seq};
+use wp_model::{Entry, MOST_COMMITS, Seq};
 
 fn may_log(world: &World, by: usize) -> bool
     ensures { result ≡ true → MayLog world.now by }
@@ -79,13 +79,25 @@ fn may_stop(world: &World, by: usize) -> bool
         && world.installed.halted
 }
 
-/// One entry, or an undo with its close.
+fn are_commits(entries: &[Entry]) -> bool
+    ensures { result ≡ true → AreCommits entries.now }
+{
+    for entry in entries {
+        let Entry::Commit(_) = entry else {
+            return false;
+        };
+    }
+    true
+}
+
+/// One entry, an undo with its close, or a group of commits.
 fn is_one_record(entries: &[Entry]) -> bool
     ensures { result ≡ true → IsOneRecord entries.now }
 {
     match entries {
         [Entry::Undo(p, _), Entry::Close(q)] => p == q,
-        [Entry::Write(_) | Entry::Prepare(_, _) | Entry::Commit(_)] => true,
+        [Entry::Commit(_), others @ ..] => others.len() < MOST_COMMITS && are_commits(others),
+        [Entry::Write(_) | Entry::Prepare(_, _)] => true,
         _ => false,
     }
 }

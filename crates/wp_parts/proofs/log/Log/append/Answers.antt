@@ -4,7 +4,7 @@ use Rattle.wp_gatelog.specs.Moments.{Leaves}
 use Rattle.wp_outside.specs.Disk.{Passes}
 use Rattle.wp_wal.specs.Spelling.{IsLogOrNextAt}
 use Rattle.wp_parts.specs.Log.{Ending}
-use Rattle.wp_parts.proofs.LogLemmas.{appended, appended_faults, appended_table, at_cut, closed_now, closed_table, cut_was, is_reserved, wal_runs}
+use Rattle.wp_parts.proofs.LogLemmas.{appended, appended_count, appended_faults, appended_table, at_cut, closed_now, closed_table, cut_was, is_reserved, wal_runs}
 use Rattle.wp_parts.proofs.log.Log.append.Goals as goal
 
 pub invariant_of-self : goal.invariant_of-self
@@ -35,6 +35,13 @@ returns-in-Ok-clause-unfailed g c =
     let ending : Ending = record { closed = i.closed; stopped = i.stopped; failed = i.failed.value.items; next = i.next } in
     let reserved = is_reserved i.wal i.first.value i.history.entries i.pending.items i.logged ending i.history.base i.history.room c.self.invariant running some not_logged in
     rw (← c.self.view_is) (appended_faults i.wal i.first.value i.history.entries i.pending.items i.logged ending i.history.base i.history.room c.self.invariant running some not_logged c.append.new.self c.append.ensures.later (c.append.ensures.durable c.self.invariant.log.cut [] reserved.stores) c.in-Ok.ensures.ok)
+
+pub returns-in-Ok-clause-counted : goal.returns-in-Ok-clause-counted
+returns-in-Ok-clause-counted g c =
+    let i = c.self.inside in let running = rw (← c.self.view_is) at c.requires.running in let some = rw (← c.self.view_is) at c.requires.some in let not_logged = rw (← c.self.view_is) at c.requires.unlogged in
+    let ending : Ending = record { closed = i.closed; stopped = i.stopped; failed = i.failed.value.items; next = i.next } in
+    let reserved = is_reserved i.wal i.first.value i.history.entries i.pending.items i.logged ending i.history.base i.history.room c.self.invariant running some not_logged in
+    rw (← c.self.view_is) (appended_count i.wal i.first.value i.history.entries i.pending.items i.logged ending i.history.base i.history.room c.self.invariant running some not_logged c.append.new.self c.append.ensures.later (c.append.ensures.durable c.self.invariant.log.cut [] reserved.stores) c.in-Ok.ensures.ok)
 
 pub returns-in-Err-DiskFault-clause-err : goal.returns-in-Err-DiskFault-clause-err
 returns-in-Err-DiskFault-clause-err g c =
