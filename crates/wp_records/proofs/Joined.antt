@@ -10,7 +10,7 @@ use Rattle.wp_model.specs.Legal.{IsLegal}
 use Rattle.wp_judge.specs.Words.{CommitPair, commit_pair}
 use Rattle.wp_core.specs.Cache.{cache_place}
 use Rattle.wp_core.specs.Conditions.{HasTransaction, IsPrepare}
-use Rattle.wp_model.specs.Record.{IsOneRecord}
+use Rattle.wp_model.specs.Record.{AreCommits, IsOneRecord}
 use Rattle.wp_core.specs.Entries.{next_of, pair_by, pending_pair, written}
 use Rattle.wp_core.specs.States.{WriteState, writes}
 use Rattle.wp_core.specs.Lists.{IsIn}
@@ -80,9 +80,15 @@ pub split : (pending : List Entry) → pending ≢ [] → (entry : Entry) × (ot
 split [] some = absurd (some refl)
 split (entry ∷ others) some = (entry, others, refl)
 
+commits_behind : (entries : List Entry) → AreCommits entries → AreBehind entries
+commits_behind [] are = tt
+commits_behind (Commit p ∷ others) are = commits_behind others are
+commits_behind others are = absurd are
+
 -- of one record those behind the first have no versions
 pub one_behind : (entries : List Entry) → IsOneRecord entries → AreBehind (rest_of entries)
 one_behind [] one = tt
+one_behind (Commit p ∷ others) one = commits_behind others one.0
 one_behind (entry ∷ []) one = tt
 one_behind (Undo p batch ∷ Close q ∷ []) one = tt
 one_behind others one = absurd one

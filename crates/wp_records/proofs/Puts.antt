@@ -1,5 +1,5 @@
 -- What a call leaves, put together from what its stages leave.
-use Rattle.std.proofs.Common.{◌≡◌, ℕ, suc, Bool, true, false, ◌||◌, List, [], ◌∷◌, ◌++◌, length, length-append, append_assoc, append-nil, refl, sym, subst, ap, ◌∙◌, None, arith}
+use Rattle.std.proofs.Common.{◌≡◌, ℕ, suc, ◌+◌, Bool, true, false, ◌||◌, List, [], ◌∷◌, ◌++◌, length, length-append, append_assoc, append-nil, refl, sym, subst, ap, ◌∙◌, None, arith}
 use Rattle.std.specs.Prelude.{Result, Ok, Err}
 use Rattle.wp_model.specs.declared.entry.Entry.{Entry}
 use Rattle.wp_outside.specs.Faults.{Rose}
@@ -23,7 +23,7 @@ use Rattle.wp_commits.proofs.Ways.{bound_for_more}
 use Rattle.wp_records.specs.declared.error.WriteError.{WriteError}
 use Rattle.wp_records.specs.declared.error.WriteError.TheVariants.{Memory, LogFault}
 use Rattle.wp_records.specs.Writing.{HoldsWrite}
-use Rattle.wp_records.specs.Records.{numbers_behind, putting, IsAboutNone, HasCleared, IsPutWith, IsPut, IsNotPut, IsUncalled, LeavesAll, failing, FailsAppend, Puts}
+use Rattle.wp_records.specs.Records.{numbers_behind, putting, IsAboutNone, HasCleared, IsPutWith, IsPut, IsNotPut, IsUncalled, LeavesAll, failing, FailsAppend, AppendsOnce, Puts}
 use Rattle.wp_records.specs.Stages.{is_of_stage, is_guarded, may_end, holding, as_failed, HoldsPending, IsLogged, Logs, HasJoined}
 use Rattle.wp_records.proofs.Facts.{not_stage, unguarded}
 use Rattle.wp_records.proofs.Holding.{as_write}
@@ -63,6 +63,15 @@ fails log mid left unlogged closed back rose passed durable =
       passed = subst (λ (w : WalState). LeavesAll log.wal log.state log.state.pending w.moments) (sym wal) passed;
       durable = subst (λ (w : WalState). LosesNothingAt log.state.segment.place log.wal.moments w.moments) (sym wal) durable;
     }
+
+-- behind the append the device was not called
+pub appended : (log mid left : LogState) (entries : List Entry) → AppendsOnce log entries mid → (left.wal ≡ mid.wal) × (left.state.log ≡ mid.state.log) → AppendsOnce log entries left
+appended log mid left entries once same = record {
+  spelled = same.1 ∙ once.spelled;
+  counted = ap (λ (w : WalState). w.count) same.0 ∙ once.counted;
+  passed = subst (λ (w : WalState). LeavesAll log.wal log.state entries w.moments) (sym same.0) once.passed;
+  durable = subst (λ (w : WalState). LosesNothingAt log.state.segment.place log.wal.moments w.moments) (sym same.0) once.durable;
+}
 
 -- ---- a stage before
 
@@ -121,6 +130,14 @@ module _ {D : Type 0} (z : SharedState D) (s t new : SeatState) (log mid left : 
       durable = subst (λ (x : WalState × WriteState). LosesNothingAt x.1.segment.place x.0.moments left.wal.moments) (λ i. (wal i, table i)) f.durable;
     }
 
+    appends_before : (entries : List Entry) → AppendsOnce mid entries left → AppendsOnce log entries left
+    appends_before entries once = record {
+      spelled = once.spelled ∙ ap (λ (x : WriteState). x.log ++ entries) table;
+      counted = once.counted ∙ ap (λ (w : WalState). w.count + 1) wal;
+      passed = subst (λ (x : WalState × WriteState). LeavesAll x.0 x.1 entries left.wal.moments) (λ i. (wal i, table i)) once.passed;
+      durable = subst (λ (x : WalState × WriteState). LosesNothingAt x.1.segment.place x.0.moments left.wal.moments) (λ i. (wal i, table i)) once.durable;
+    }
+
     ways_are : (entries : List Entry) → ways_of z.cells (suc (length mid.state.history)) entries ≡ ways_of z.cells (suc n) entries
     ways_are entries = ap (λ (e : List Entry). ways_of z.cells (suc (length e)) entries) same_history
 
@@ -140,7 +157,7 @@ module _ {D : Type 0} (z : SharedState D) (s t new : SeatState) (log mid left : 
     }
 
     pub puts_before : (entries : List Entry) (answer : Result (Unit {0}) WriteError) → Puts z t mid entries answer new left → Puts z s log entries answer new left
-    puts_before entries (Ok done) p = subst (λ (w : List Way). IsPutWith z s log w entries new left) (ways_are entries) (put_before [] rises (ways_of z.cells (suc (length mid.state.history)) entries) entries (λ any. cleared_before entries (p.waited any)) p)
+    puts_before entries (Ok done) p = (subst (λ (w : List Way). IsPutWith z s log w entries new left) (ways_are entries) (put_before [] rises (ways_of z.cells (suc (length mid.state.history)) entries) entries (λ any. cleared_before entries (p.0.waited any)) p.0), appends_before entries p.1)
     puts_before entries (Err Memory) p = (
       p.0,
       p.1,

@@ -1,5 +1,5 @@
 -- What a record needs, and what it leaves: its entries in the history, or nothing of it.
-use Rattle.std.specs.Prelude.{◌≡◌, ℕ, suc, Bool, true, false, List, [], ◌∷◌, ◌++◌, length, Some, None, Result, Ok, Err}
+use Rattle.std.specs.Prelude.{◌≡◌, ℕ, suc, ◌+◌, Bool, true, false, List, [], ◌∷◌, ◌++◌, length, Some, None, Result, Ok, Err}
 use Rattle.std.specs.FinSet as set
 use Rattle.wp_model.specs.declared.change.Change.{Change}
 use Rattle.wp_model.specs.declared.entry.Entry.{Entry}
@@ -134,10 +134,18 @@ pub record FailsAppend (log : LogState) (entries : List Entry) (left : LogState)
   pub passed : LeavesAll log.wal log.state entries left.wal.moments
   pub durable : LosesNothingAt log.state.segment.place log.wal.moments left.wal.moments
 
+-- The append of these entries was one record: the log of the device has one more, and spells the entries behind what it spelled. A crash at
+-- any moment of it left the history, or it and the entries, whole, and lost nothing that was acknowledged.
+pub record AppendsOnce (log : LogState) (entries : List Entry) (left : LogState) : Type 0 where
+  pub spelled : left.state.log ≡ log.state.log ++ entries
+  pub counted : left.wal.count ≡ log.wal.count + 1
+  pub passed : LeavesAll log.wal log.state entries left.wal.moments
+  pub durable : LosesNothingAt log.state.segment.place log.wal.moments left.wal.moments
+
 -- What a call answers that puts these entries behind the history, and what it leaves. Where memory is wanting the bound rose for some
 -- of the first of its ways, for none, or for all; and the log's device was not called.
 abbrev pub Puts : {D : Type 0} → SharedState D → SeatState → LogState → List Entry → Result (Unit {0}) WriteError → SeatState → LogState → Type 0
-Puts z old log entries (Ok done) new left = IsPut z old log entries new left
+Puts z old log entries (Ok done) new left = IsPut z old log entries new left × AppendsOnce log entries left
 Puts z old log entries (Err Memory) new left =
     (cleared : List Way) × (others : List Way) × (ways_of z.cells (suc (length log.state.history)) entries ≡ cleared ++ others) × IsNotPut z old log cleared false old.knows.participant new left × IsUncalled log left
 Puts z old log entries (Err LogFault) new left = IsNotPut z old log (ways_of z.cells (suc (length log.state.history)) entries) true (failing entries old.knows.participant) new left × FailsAppend log entries left

@@ -23,7 +23,7 @@ use Rattle.wp_shared.specs.Notes.{is_ended_by, is_flag, GoesOn, KnowsWords}
 use Rattle.wp_commits.specs.Ways.{way_of, ways_of, AreReady, AreApart, IsEntered, entered}
 use Rattle.wp_records.specs.declared.error.WriteError.{WriteError}
 use Rattle.wp_records.specs.declared.error.WriteError.TheVariants.{Memory, LogFault}
-use Rattle.wp_records.specs.Records.{OwnsEntry, MayPut, IsNotPut, IsUncalled, failing, FailsAppend}
+use Rattle.wp_records.specs.Records.{OwnsEntry, MayPut, IsNotPut, IsUncalled, failing, FailsAppend, AppendsOnce}
 
 -- ---- which facts
 
@@ -129,6 +129,7 @@ pub record IsLogged {D : Type 0} (z : SharedState D) (old : SeatState) (log : Lo
   pub holds : HoldsPending z new left
   pub seat : new ≡ holding left.state old
   pub state : left.state ≡ record log.state { logged = true; log = log.state.log ++ log.state.pending }
+  pub appended : AppendsOnce log log.state.pending left
 
 -- what the log call leaves of the pending record: it is logged, or taken back. It takes no memory
 abbrev pub Logs : {D : Type 0} → SharedState D → SeatState → LogState → Result (Unit {0}) WriteError → SeatState → LogState → Type 0

@@ -1,6 +1,6 @@
 //! One record of entries, from its making to the history.
 //!
-//! A `Record` is its list of entries: a Write, a Prepare, a Commit, or an Undo with its Close. `put` is called by the holder of the
+//! A `Record` is its list of entries: a Write, a Prepare, one to sixteen Commits, or an Undo with its Close. `put` is called by the holder of the
 //! write turn, and does in this order: it makes the record pending, with all memory that the log and the history need; clears the
 //! words of the commit cache for the pairs that its entries decide, or raises the bound to the number of one that fits no word; puts
 //! the versions of its changes into memory under the store turn, and the number of a Prepare into the prepared heap under the prepared

@@ -96,7 +96,7 @@ fn publish_next<D: Disk + Drop, R: Wait>(
     store.store_published(seat, n);
 }
 
-/// Puts the pending entries, which are logged, into the history, one after another.
+/// Puts the pending entries, which are logged, into the history, one after another. The log's device is not called.
 fn publish_all<D: Disk + Drop, R: Wait>(
     store: &Shared<D>,
     rt: &R,
@@ -108,7 +108,8 @@ fn publish_all<D: Disk + Drop, R: Wait>(
     requires running { log.old.state.closed ≡ false }
     requires may { MayJoin seat.old.knows store.now.cells log.old.state }
     requires versions { Noted seat.old.knows versions_in_memory }
-    ensures { IsPutWith store.now seat.old log.old [] log.old.state.pending seat.new log.new }
+    ensures put { IsPutWith store.now seat.old log.old [] log.old.state.pending seat.new log.new }
+    ensures uncalled { (log.new.wal ≡ log.old.wal) × (log.new.state.log ≡ log.old.state.log) }
 {
     publish_next(store, rt, seat, log);
     while !log.pending().is_empty() {

@@ -1,6 +1,7 @@
 //! A record is its list of entries.
-ghost use Rattle.std.specs.Prelude.{◌≡◌, [], ◌∷◌, length, IfOk};
+ghost use Rattle.std.specs.Prelude.{◌≡◌, ◌≤◌, [], ◌∷◌, map, length, IfOk};
 ghost use Rattle.wp_model.specs.declared.entry.Entry.TheVariants.{Write, Prepare, Commit, Undo, Close};
+ghost use Rattle.wp_model.specs.declared.entry.TheConstants.{MOST_COMMITS};
 ghost use Rattle.wp_model.specs.Record.{IsOneRecord};
 
 use std::alloc::{AllocError, Global};
@@ -61,6 +62,19 @@ impl Record {
         ensures { IfOk result (λ made. made ≡ Commit p ∷ []) }
     {
         Record::of(alloc, Entry::Commit(p))
+    }
+
+    /// The Commit entries of these prepares, one behind another.
+    pub fn commits(alloc: Global, numbers: &[Seq]) -> Result<Record, AllocError>
+        requires some { 1 ≤ length numbers.now }
+        requires few { length numbers.now ≤ MOST_COMMITS }
+        ensures { IfOk result (λ made. made ≡ map (λ p. Commit p) numbers.now) }
+    {
+        let mut entries = Vec::with_capacity(alloc, numbers.len())?;
+        for p in numbers {
+            entries.push(Entry::Commit(*p))?;
+        }
+        Ok(Record { entries })
     }
 
     /// An Undo entry of the prepare `p`, with what its keys had before it, and its Close.

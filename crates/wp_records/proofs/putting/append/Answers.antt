@@ -18,6 +18,7 @@ returns g c = record {
   holds = holds_as c.args.store.now c.args.seat.now c.log_pending.new.seat c.args.log.now c.append.new.self c.requires.holds c.args.seat.now.knows.participant refl c.log_pending.ensures c.append.ensures.first (ap (λ (t : WriteState). t.history) c.in-Ok.ensures.ok);
   seat = c.log_pending.ensures;
   state = c.in-Ok.ensures.ok;
+  appended = record { spelled = ap (λ (t : WriteState). t.log) c.in-Ok.ensures.ok; counted = c.in-Ok.ensures.counted; passed = c.append.ensures.passed; durable = c.append.ensures.durable };
 }
 
 pub close_log-requires-clause-held : goal.close_log-requires-clause-held

@@ -32,6 +32,7 @@ loop-seat-init g c =
       behind = c.publish_next.ensures.behind;
       running = ap (λ (x : LogState). x.state.closed) joined.log_is ∙ c.requires.running;
       learned = ap (λ (x : SeatState). x.knows.learned) joined.seat.same;
+      uncalled = (ap (λ (x : LogState). x.wal) joined.log_is, ap (λ (x : LogState). x.state.log) joined.log_is);
       puts = put_first z s t log mid k.0 k.1 joined k.2;
     }
 
@@ -72,6 +73,7 @@ loop-seat-preserved g c =
       behind = n.ensures.behind;
       running = ap (λ (x : LogState). x.state.closed) joined.log_is ∙ inv.running;
       learned = ap (λ (x : SeatState). x.knows.learned) joined.seat.same;
+      uncalled = (ap (λ (x : LogState). x.wal) joined.log_is ∙ inv.uncalled.0, ap (λ (x : LogState). x.state.log) joined.log_is ∙ inv.uncalled.1);
       puts = λ new left p. inv.puts new left (put_noted z s n.new.seat log n.new.log k.0 k.1 joined k.2 r c.note_no_versions.ensures new left p);
     }
 
@@ -79,4 +81,7 @@ pub returns : goal.returns
 returns g c =
     let z = c.args.store.now in let s = c.loop-seat.seat in let log = c.loop-seat.log in let inv = c.loop-seat.invariant in
     let empty : log.state.pending ≡ [] = search rules in
-    inv.puts s log (subst (λ (e : List Entry). IsPutWith z s log [] e s log) (sym empty) (put_none z s log inv.holds empty inv.running inv.learned))
+    record {
+      put = inv.puts s log (subst (λ (e : List Entry). IsPutWith z s log [] e s log) (sym empty) (put_none z s log inv.holds empty inv.running inv.learned));
+      uncalled = inv.uncalled;
+    }

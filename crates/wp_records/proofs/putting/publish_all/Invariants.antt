@@ -12,6 +12,7 @@ invariant-loop-seat g l = record {
   behind : AreBehind l.log.state.pending;
   running : l.log.state.closed ≡ false;
   learned : l.seat.knows.learned ≡ [];
+  uncalled : (l.log.wal ≡ l.fn.log.wal) × (l.log.state.log ≡ l.fn.log.state.log);
   puts : (new : SeatState) (left : LogState) → IsPutWith l.store l.seat l.log [] l.log.state.pending new left → IsPutWith l.store l.fn.seat l.fn.log [] l.fn.log.state.pending new left;
 }
 

@@ -15,7 +15,7 @@ use Rattle.wp_records.specs.declared.error.WriteError.TheVariants.{Memory}
 use Rattle.wp_records.specs.Records.{Puts}
 use Rattle.wp_records.specs.Stages.{is_guarded, HoldsPending, IsReadied}
 use Rattle.wp_records.proofs.Joined.{logged_join}
-use Rattle.wp_records.proofs.Puts.{not_put, not_ready, not_logged, put_logged, ready_cleared}
+use Rattle.wp_records.proofs.Puts.{not_put, not_ready, not_logged, put_logged, ready_cleared, appended}
 use Rattle.wp_records.proofs.Readied.{may_still}
 use Rattle.wp_records.proofs.putting.put_pending.Goals as goal
 
@@ -51,9 +51,12 @@ publish_all-requires-clause-versions g c =
 pub returns : goal.returns
 returns g c =
     let z = c.args.store.now in let s = c.args.seat.now in let r = c.ready.new.seat in let t = c.shows_world.new.seat in let log = c.args.log.now in let same = c.shows_world.ensures.same in
-    put_logged z s t c.append.new.seat c.publish_all.new.seat log c.append.new.log c.publish_all.new.log (subst (λ (x : SeatState). GoesOn is_guarded s.knows.held s.turns s x) (sym same) c.ready.ensures.seat)
-    (subst (λ (x : SeatState). RisesFor z.cells (length log.state.history) s.knows x.knows (ways_of z.cells (suc (length log.state.history)) log.state.pending)) (sym same) c.in-Ok.ensures.bound)
-    (λ any. ready_cleared z s r t log c.ready.ensures.seat c.ready.ensures.holds same c.shows_world.ensures.stands c.in-Ok.ensures.bound (c.in-Ok.ensures.waits any)) (c.in_ok-append.ensures {u = tt}) c.publish_all.ensures
+    let logged = c.in_ok-append.ensures {u = tt} in (
+      put_logged z s t c.append.new.seat c.publish_all.new.seat log c.append.new.log c.publish_all.new.log (subst (λ (x : SeatState). GoesOn is_guarded s.knows.held s.turns s x) (sym same) c.ready.ensures.seat)
+          (subst (λ (x : SeatState). RisesFor z.cells (length log.state.history) s.knows x.knows (ways_of z.cells (suc (length log.state.history)) log.state.pending)) (sym same) c.in-Ok.ensures.bound)
+          (λ any. ready_cleared z s r t log c.ready.ensures.seat c.ready.ensures.holds same c.shows_world.ensures.stands c.in-Ok.ensures.bound (c.in-Ok.ensures.waits any)) logged c.publish_all.ensures.put,
+      appended log c.append.new.log c.publish_all.new.log log.state.pending logged.appended c.publish_all.ensures.uncalled,
+    )
 
 pub take_back-requires : goal.take_back-requires
 take_back-requires g c = record { holds = c.ready.ensures.holds; unlogged = c.requires.unlogged.unlogged; undelayed = c.ready.ensures.undelayed }
