@@ -234,6 +234,10 @@ module _ {D : Type 0} (z : SharedState D) (old : SeatState) (t : LockState) (s :
       back (IsApartFrom name) (f (with_locks t old).knows) r new (under f r without_it.seat) gave refl refl ([], sym (append-nil old.knows.participant.seen))
       (λ fact apart there. without_it.notes fact apart (subst (λ (x : SeatState). IsIn fact x.knows.notes) (sym took) there))
 
+  -- it has seen no more
+  pub given_up_same : (name : List ℕ) (u : LockState) (r new : SeatState) → IsWithout s r u name → Given z locks_turn r new [] [] → new.knows.participant ≡ without_transaction name old.knows.participant
+  given_up_same name u r new without_it gave = ap (λ (x : SeatState). x.knows.participant) gave.goes.same ∙ ap (λ (x : SeatState). x.knows.participant) (under (λ a. record (giving_up u name a) { notes = r.knows.notes }) r without_it.seat)
+
   -- it holds this state, in which its transaction is gone
   pub without_holds : IsFree z.table old → (u m : LockState) (name : List ℕ) (r : SeatState) → IsWithout s r u name → m ≡ u → HoldsTurn z r (locks m) [] []
   without_holds free u m name r without_it same = holds_tables (record (giving_up u name s.knows) { notes = r.knows.notes }) u m (holds_alone free k) same without_it.seat refl refl
@@ -241,7 +245,7 @@ module _ {D : Type 0} (z : SharedState D) (old : SeatState) (t : LockState) (s :
   pub freed : (name : List ℕ) (u m : LockState) (r new : SeatState) → IsWithout s r u name → (w : World) × Stands z r w → HoldsTurn z r (locks m) [] [] → IsFreeName name m → Given z locks_turn r new [] [] → Frees z old new name
   freed name u m r new without_it stands held is_free gave = record {
     gives_up = given_up name u r new without_it gave;
-    same = ap (λ (x : SeatState). x.knows.participant) gave.goes.same ∙ ap (λ (x : SeatState). x.knows.participant) (under (λ a. record (giving_up u name a) { notes = r.knows.notes }) r without_it.seat);
+    same = given_up_same name u r new without_it gave;
     freed = locks_left z r new m (IsFreeName name) stands (held_last held) gave is_free;
   }
 

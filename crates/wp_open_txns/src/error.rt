@@ -23,6 +23,9 @@ pub enum TxnError {
     Unknown { name: Name, at: Seq },
     /// A client has the transaction.
     InUse(Name),
+    /// These two numbers of a group have one place in the commit cache: no number of the group before `second` shares the place of an
+    /// earlier one, and `first` is that earlier one.
+    Crowded { first: Seq, second: Seq },
     /// The next numbers would be above the limit, the lesser of the store's and the last number of the log's version.
     NumbersFull { published: Seq, limit: Seq },
     /// The log's device failed.

@@ -5,9 +5,9 @@ ghost use Rattle.wp_locks.specs.Locks.{AreBeyond};
 ghost use Rattle.wp_core.specs.Lists.{IsIn};
 ghost use Rattle.wp_core.specs.States.{Content, locks};
 ghost use Rattle.wp_core.specs.Views.{locks_stay};
-ghost use Rattle.wp_shared.specs.Seats.{IsFree};
+ghost use Rattle.wp_shared.specs.Seats.{IsFree, participant_of};
 ghost use Rattle.wp_shared.specs.Turns.{HoldsTurn};
-ghost use Rattle.wp_open_txns.specs.Calls.{GivesUp, LocksAre, TakesPrepared};
+ghost use Rattle.wp_open_txns.specs.Calls.{GivesUp, LocksAre, TakesPrepared, without_transaction};
 ghost use Rattle.wp_open_txns.specs.Txn.{HasPrepared, keys_in};
 ghost use Rattle.wp_open_txns.specs.Under.{IsPrepareOf, TakesUnder};
 
@@ -33,6 +33,7 @@ pub fn leave<D: Disk + Drop, R: Wait>(
     requires free { IsFree store.now.table seat.old }
     requires prepared { HasPrepared seat.old txn }
     ensures gives_up { GivesUp store.now seat.old seat.new txn.name }
+    ensures same { participant_of seat.new ≡ without_transaction txn.name (participant_of seat.old) }
     ensures left { LocksAre store.now seat.new (λ t. finite.get t.names txn.name ≡ Some None) }
     ensures noted { IsIn (locks_stay txn.name txn.number (keys_in txn.batch txn.locked)) seat.new.knows.notes }
 {

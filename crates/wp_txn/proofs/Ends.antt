@@ -1,24 +1,22 @@
 -- A transaction that its entries end, and one that is prepared.
-use Rattle.std.proofs.Common.{◌≡◌, inl, ℕ, suc, ◌≤◌, ◌<◌, false, List, [], ◌∷◌, ◌++◌, length, refl, sym, subst, ap, ◌∙◌, Option, Some, eq-eqb, ◌+◌, arith}
+use Rattle.std.proofs.Common.{◌≡◌, inl, ℕ, false, List, [], ◌∷◌, ◌++◌, length, refl, sym, subst, ap, ◌∙◌, Option, Some, ◌+◌, arith}
 use Rattle.std.specs.Prelude.{Ok}
 use Rattle.std.specs.FinMap as finite
 use Rattle.wp_model.specs.Changed.{IsUnchanged}
-use Rattle.wp_model.specs.Decision.{decision_of}
 use Rattle.wp_model.specs.History.{entry_at}
 use Rattle.wp_model.specs.Legal.{IsLegal}
+use Rattle.wp_model.specs.LockState.{LockState}
 use Rattle.wp_model.specs.declared.change.Change.{Change}
 use Rattle.wp_model.specs.declared.entry.Entry.{Entry}
-use Rattle.wp_model.specs.declared.entry.Entry.TheVariants.{Write, Prepare, Commit}
-use Rattle.wp_model.proofs.Entries.{entry_at_old, undecided_within}
-use Rattle.wp_history_laws.proofs.Growth.{after_front, entry_at_next, length_next}
+use Rattle.wp_model.specs.declared.entry.Entry.TheVariants.{Write, Prepare}
+use Rattle.wp_model.proofs.Entries.{entry_at_old}
+use Rattle.wp_history_laws.proofs.Growth.{entry_at_next, length_next}
 use Rattle.wp_history_laws.proofs.Unchanged.{unchanged_later}
-use Rattle.wp_judge.specs.Words.{seq_end}
 use Rattle.wp_core.specs.Lists.{IsIn}
 use Rattle.wp_core.specs.Reading.{Registration}
 use Rattle.wp_core.specs.Views.{Fact, undecided_at, unprepared, unchanged}
-use Rattle.wp_core.specs.World.{Participant}
+use Rattle.wp_core.specs.World.{Transactions, Participant}
 use Rattle.wp_core.specs.Sound.Actors.{StartsWith}
-use Rattle.wp_core.proofs.HistoryLaws.{next_decides_prepare}
 use Rattle.wp_read.specs.Registers.{unregistering}
 use Rattle.wp_records.specs.Records.{numbers_behind, IsAboutNone}
 use Rattle.wp_records.specs.Writing.{FoundLog}
@@ -27,7 +25,7 @@ use Rattle.wp_rule.proofs.Knows.{at_sound, noted_is}
 use Rattle.wp_rule.specs.Words.{IsAt}
 use Rattle.wp_shared.proofs.Onward.{continues_none}
 use Rattle.wp_shared.specs.Seats.{SharedState, SeatState, IsFree, place_at}
-use Rattle.wp_open_txns.specs.Calls.{without_transaction, Frees}
+use Rattle.wp_open_txns.specs.Calls.{LocksAre, IsFreeName, without_transaction, Frees}
 use Rattle.wp_txn.specs.Recording.{Records}
 use Rattle.wp_open_txns.specs.Turns.{IsApartFrom}
 use Rattle.wp_open_txns.specs.Txn.{OpenState, PreparedState, HasLocked, HasOpen, HasPrepared}
@@ -41,16 +39,13 @@ use Rattle.wp_open_txns.proofs.Still.{open_still, prepared_still}
 
 -- The call began with what left the seat as it was, but for what it had seen. Behind the record the transaction's pin was released, if it
 -- had one.
-module _ {D : Type 0} (z : SharedState D) (old start mid u new : SeatState) (name : List ℕ) (pin : Option Registration) (entries : List Entry) (facts : ℕ → List Fact) (n : ℕ) (begins : Continues z old start old.knows.participant)
+module _ {D : Type 0} (z : SharedState D) (old start mid u new : SeatState) (pin : Option Registration) (entries : List Entry) (facts : ℕ → List Fact) (n : ℕ) (begins : Continues z old start old.knows.participant)
     (r : Records z start entries facts (Ok n) mid) (unpinned : Continues z mid u (unregistering pin mid.knows.participant)) (exact : u.knows.participant ≡ unregistering pin mid.knows.participant) where
   abbrev it : Participant
   it = old.knows.participant
 
   abbrev Part : Fact → Type 0
   Part fact = IsLoose fact × IsAboutNone r.1.0 entries fact
-
-  abbrev Apart : Fact → Type 0
-  Apart fact = IsApartFrom name fact × IsAboutNone r.1.0 entries fact
 
   -- with these numbers more of its own
   abbrev owning : Participant → Participant
@@ -73,26 +68,33 @@ module _ {D : Type 0} (z : SharedState D) (old start mid u new : SeatState) (nam
   pub seen_then : u.knows.participant.seen ≡ mid.knows.participant.seen
   seen_then = ap (λ (p : Participant). p.seen) exact
 
-  same_seen : Frees z u new name → new.knows.participant.seen ≡ mid.knows.participant.seen
-  same_seen frees = ap (λ (p : Participant). p.seen) frees.same ∙ seen_then
-
-  -- what was put is put still, and the transaction is gone
-  pub put_and_freed : Frees z u new name → HasPut (IsApartFrom name) z old new it (without_transaction name left_it) r.1.0 entries
-  put_and_freed frees =
-      put_within IsLoose (IsApartFrom name) z old start mid new it (without_transaction name left_it) r.1.0 entries begins r.1.1.put (same_seen frees)
-      (chain Apart Part (IsApartFrom name) z old u new (owning left_it) (without_transaction name u.knows.participant) (owning (without_transaction name left_it)) (λ fact apart. (apart.0.0, apart.1)) (λ fact apart. apart.0)
-      until_unpinned frees.gives_up (ap (λ (p : Participant). record (without_transaction name p) { seen = new.knows.participant.seen }) until_unpinned.participant))
+  -- what was put is put still, and these transactions are gone
+  pub put_and_gone : (Stays : Fact → Type 0) → ((fact : Fact) → Stays fact → IsLoose fact) → (gone : Transactions → Transactions) → ContinuesWith Stays z u new (record u.knows.participant { transactions = gone u.knows.participant.transactions })
+      → new.knows.participant ≡ record u.knows.participant { transactions = gone u.knows.participant.transactions } → HasPut Stays z old new it (record left_it { transactions = gone left_it.transactions }) r.1.0 entries
+  put_and_gone Stays loose gone goes is =
+      let without : Participant → Participant = λ p. record p { transactions = gone p.transactions } in
+      put_within IsLoose Stays z old start mid new it (without left_it) r.1.0 entries begins r.1.1.put (ap (λ (p : Participant). p.seen) is ∙ seen_then)
+      (chain (λ fact. Stays fact × IsAboutNone r.1.0 entries fact) Part Stays z old u new (owning left_it) (without u.knows.participant) (owning (without left_it)) (λ fact stays. (loose fact stays.0, stays.1)) (λ fact stays. stays.0)
+      until_unpinned goes (ap (λ (p : Participant). record (without p) { seen = new.knows.participant.seen }) until_unpinned.participant))
 
   -- the number published then is how much it has seen still
-  pub number_still : Frees z u new name → n ≡ length new.knows.participant.seen
-  number_still frees = r.0 ∙ ap (λ (es : List Entry). length es) (sym (same_seen frees))
+  pub seen_still : new.knows.participant.seen ≡ u.knows.participant.seen → n ≡ length new.knows.participant.seen
+  seen_still same = r.0 ∙ ap (λ (es : List Entry). length es) (sym (same ∙ seen_then))
 
-  pub ended : (So : List Entry → Type 0) → So r.1.0 → Frees z u new name → Ends z old name (without_transaction name left_it) entries So n new
-  ended So so frees = (number_still frees, (r.1.0, put_and_freed frees, so), frees.freed)
+  -- one transaction ended
+  module _ (name : List ℕ) where
+    pub put_and_freed : Frees z u new name → HasPut (IsApartFrom name) z old new it (without_transaction name left_it) r.1.0 entries
+    put_and_freed frees = put_and_gone (IsApartFrom name) (λ fact apart. apart.0) (λ ts. finite.remove ts name) frees.gives_up frees.same
 
-  -- it has the transaction until then, with the keys that it locked
-  pub locked_until : (batch : List Change) (locked : List (List ℕ)) → HasLocked old name batch locked → HasLocked u name batch locked
-  locked_until batch locked h = record { transaction = h.transaction; has = ap (λ (p : Participant). finite.get p.transactions name) until_unpinned.participant ∙ h.has; keys = h.keys }
+    pub number_still : Frees z u new name → n ≡ length new.knows.participant.seen
+    number_still frees = seen_still (ap (λ (p : Participant). p.seen) frees.same)
+
+    pub ended : (So : List Entry → Type 0) → So r.1.0 → Frees z u new name → Ends z old name (without_transaction name left_it) entries So n new
+    ended So so frees = (number_still frees, (r.1.0, put_and_freed frees, so), frees.freed)
+
+  -- it has a transaction until then, with the keys that it locked
+  pub locked_until : (name : List ℕ) (batch : List Change) (locked : List (List ℕ)) → HasLocked old name batch locked → HasLocked u name batch locked
+  locked_until name batch locked h = record { transaction = h.transaction; has = ap (λ (p : Participant). finite.get p.transactions name) until_unpinned.participant ∙ h.has; keys = h.keys }
 
 -- ---- what was noted of keys was so, as the log was found
 
@@ -140,40 +142,28 @@ pub noted_until : {D : Type 0} (z : SharedState D) (old mid : SeatState) (batch 
     → IsIn (unprepared name) mid.knows.notes
 noted_until z old mid batch facts n name r there = r.1.1.put.goes_on.notes (unprepared name) (refl, (refl, tt)) there
 
+-- it stood with the locks as whoever is that participant in its place
+pub locks_as : {D : Type 0} (z : SharedState D) (s t : SeatState) (So : LockState → Type 0) → t.by ≡ s.by → t.knows.participant ≡ s.knows.participant → t.knows.made ≡ s.knows.made → t.knows.joined ≡ s.knows.joined → LocksAre z s So → LocksAre z t So
+locks_as z s t So by same made joined k = let a = k.stood in record {
+  world = k.world;
+  stood = record { actor = a.actor; there = subst (λ (n : ℕ). IsAt (place_at z n) a.actor k.world) (sym by) a.there; held = a.held; participant = a.participant ∙ sym same; made = a.made ∙ sym made; joined = a.joined ∙ sym joined };
+  so_is = k.so_is;
+}
+
 -- freed, and then out of the prepared sets
 pub freed_then : {D : Type 0} (z : SharedState D) (old mid new : SeatState) (name : List ℕ) → Frees z old mid name → Continues z mid new mid.knows.participant → new.knows.participant ≡ mid.knows.participant → Frees z old new name
 freed_then z old mid new name frees goes same = record {
   gives_up = chain (IsApartFrom name) (IsApartFrom name) IsLoose z old mid new (without_transaction name old.knows.participant) mid.knows.participant (without_transaction name old.knows.participant)
       (λ fact apart. apart) (λ fact apart. apart.0) frees.gives_up goes (ap (λ (p : Participant). record p { seen = new.knows.participant.seen }) frees.same);
   same = same ∙ frees.same;
-  freed = let k = frees.freed in let a = k.stood in record {
-    world = k.world;
-    stood = record { actor = a.actor; there = subst (λ (n : ℕ). IsAt (place_at z n) a.actor k.world) (sym goes.same_by) a.there; held = a.held; participant = a.participant ∙ sym same; made = a.made ∙ sym goes.made; joined = a.joined ∙ sym goes.joined };
-    so_is = k.so_is;
-  };
+  freed = locks_as z mid new (IsFreeName name) goes.same_by same goes.made goes.joined frees.freed;
 }
 
--- ---- a prepare is decided
+-- ---- a prepared transaction
 
-module _ {D : Type 0} (z : SharedState D) (old mid : SeatState) (x : PreparedState) (h : HasPrepared old x) where
-  -- its prepare stands in what the record was put behind
-  pub stands_before : (history : List Entry) → StartsWith history old.knows.participant.seen → entry_at history x.number ≡ Some (Prepare x.name x.batch)
-  stands_before history grown = ap (λ (es : List Entry). entry_at es x.number) grown.1 ∙ entry_at_old old.knows.participant.seen grown.0 x.number h.seen ∙ h.stands
-
-  module _ (facts : ℕ → List Fact) (n : ℕ) (r : Records z old (Commit x.number ∷ []) facts (Ok n) mid) where
-    -- the number is decided in what the seat has seen, by the record's entry
-    pub commit_decides : (decision_of mid.knows.participant.seen x.number ≡ Some n) × (x.number ≤ n) × (n < seq_end)
-    commit_decides =
-        let k = r.1.1 in let history = r.1.0 in
-        let undecided = (after_front history (Commit x.number) [] k.legal).orderly.names_undecided in
-        let long = length_next history (Commit x.number) in
-        let last : n ≡ length history + 1 = r.0 ∙ ap (λ (es : List Entry). length es) k.put.seen ∙ long in
-        let is : suc (length history) ≡ n = omega (arith, last) in
-        let low = (undecided_within history x.number undecided).1 in let few = k.legal.few in (
-          ap (λ (es : List Entry). decision_of es x.number) k.put.seen ∙ (next_decides_prepare history (Commit x.number) x.number undecided (eq-eqb x.number x.number refl) ∙ ap Some is),
-          omega (arith, last, low),
-          omega (arith, last, long, few),
-        )
+-- its prepare stands in what the record was put behind
+pub stands_before : (old : SeatState) (x : PreparedState) → HasPrepared old x → (history : List Entry) → StartsWith history old.knows.participant.seen → entry_at history x.number ≡ Some (Prepare x.name x.batch)
+stands_before old x h history grown = ap (λ (es : List Entry). entry_at es x.number) grown.1 ∙ entry_at_old old.knows.participant.seen grown.0 x.number h.seen ∙ h.stands
 
 -- ---- a transaction is prepared
 
@@ -183,8 +173,8 @@ pub prepares : {D : Type 0} (z : SharedState D) (old mid new : SeatState) (txn :
 prepares z old mid new txn n h free r unpinned exact =
     let history = r.1.0 in let put = r.1.1.put in let begins = continues_none z old free in
     let entries : List Entry = Prepare txn.name txn.batch ∷ [] in
-    let goes = until_unpinned z old old mid new new txn.name txn.pin entries (λ m. undecided_at txn.name m ∷ []) n begins r unpinned exact in
-    let same = seen_then z old old mid new new txn.name txn.pin entries (λ m. undecided_at txn.name m ∷ []) n begins r unpinned exact in
+    let goes = until_unpinned z old old mid new new txn.pin entries (λ m. undecided_at txn.name m ∷ []) n begins r unpinned exact in
+    let same = seen_then z old old mid new new txn.pin entries (λ m. undecided_at txn.name m ∷ []) n begins r unpinned exact in
     let seen : new.knows.participant.seen ≡ history ++ entries = same ∙ put.seen in
     let number : n ≡ length new.knows.participant.seen = r.0 ∙ ap (λ (es : List Entry). length es) (sym same) in
     let last : n ≡ length history + 1 = r.0 ∙ ap (λ (es : List Entry). length es) put.seen ∙ length_next history (Prepare txn.name txn.batch) in (

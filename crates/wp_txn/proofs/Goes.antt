@@ -15,7 +15,7 @@ use Rattle.wp_shared.proofs.Onward.{starts_on}
 use Rattle.wp_open_txns.specs.declared.error.TxnError.{TxnError}
 use Rattle.wp_open_txns.specs.declared.error.TxnError.TheVariants.{Memory, NumbersFull, LogFault, Stopped}
 use Rattle.wp_open_txns.proofs.Still.{HasStill, still}
-use Rattle.wp_txn.specs.Writes.{HasPut, Refuses, SawNoMore, HadLog, LeavesDevice}
+use Rattle.wp_txn.specs.Writes.{HasPut, RefusesWith, Refuses, SawNoMore, HadLog, LeavesDevice}
 
 -- the participant that it is in the end, whatever it had seen on the way
 pub chain : {D : Type 0} (Stays First Second : Fact → Type 0) (z : SharedState D) (a b c : SeatState) (P Q R : Participant) → ((fact : Fact) → Stays fact → First fact) → ((fact : Fact) → Stays fact → Second fact)
@@ -47,14 +47,15 @@ found_from z old mid p history now b to is_now found = record {
 }
 
 -- what was put by a part of a call, which goes on from this participant, was put by the call
-pub put_within : {D : Type 0} (Part Stays : Fact → Type 0) (z : SharedState D) (old mid left new : SeatState) (found after : Participant) (history entries : List Entry) → Continues z old mid found
-    → HasPut Part z mid left mid.knows.participant mid.knows.participant history entries → new.knows.participant.seen ≡ left.knows.participant.seen
+pub put_within : {D : Type 0} {middle : Participant} (Part Stays : Fact → Type 0) (z : SharedState D) (old mid left new : SeatState) (found after : Participant) (history entries : List Entry) → Continues z old mid found
+    → HasPut Part z mid left mid.knows.participant middle history entries → new.knows.participant.seen ≡ left.knows.participant.seen
     → ContinuesWith (λ fact. Stays fact × IsAboutNone history entries fact) z old new (record after { own = after.own ++ numbers_behind (length history) entries }) → HasPut Stays z old new found after history entries
 put_within Part Stays z old mid left new found after history entries to put same goes = record {
   grown = starts_on old.knows.participant.seen mid.knows.participant.seen history to.seen put.grown;
   found_log = found_from z old mid found history history false to refl put.found_log;
   seen = same ∙ put.seen;
   within = put.within;
+  appended = put.appended;
   goes_on = goes;
 }
 
@@ -68,16 +69,16 @@ left_within z old mid left new found to same saw d = ⊎_elim
     d
 
 -- ... and what it was refused for, the call was
-module _ {D : Type 0} (z : SharedState D) (old mid left new : SeatState) (needed : ℕ) (found after : Participant) (to : Continues z old mid found)
-    (same : new.knows.participant.seen ≡ left.knows.participant.seen) (plain : Continues z mid left mid.knows.participant → Continues z old new after)
-    (more : (events : List Event) → Continues z mid left (with_events events mid.knows.participant) → Continues z old new (with_events events after)) where
+module _ {D : Type 0} {Kept : Fact → Type 0} (z : SharedState D) (old mid left new : SeatState) (needed : ℕ) (found after : Participant) (to : Continues z old mid found)
+    (same : new.knows.participant.seen ≡ left.knows.participant.seen) (plain : Continues z mid left mid.knows.participant → ContinuesWith Kept z old new after)
+    (more : (events : List Event) → Continues z mid left (with_events events mid.knows.participant) → ContinuesWith Kept z old new (with_events events after)) where
   abbrev found_in : (b : Bool) → FoundLog z mid mid.knows.participant left.knows.participant.seen b → FoundLog z old found new.knows.participant.seen b
   found_in b k = found_from z old mid found left.knows.participant.seen new.knows.participant.seen b to same k
 
   same_length : length left.knows.participant.seen ≡ length new.knows.participant.seen
   same_length = ap (λ (h : List Entry). length h) (sym same)
 
-  pub refused_within : (Asks More : List Entry → Type 0) → ((entries : List Entry) → Asks entries → IsLegal (new.knows.participant.seen ++ entries) → More entries) → (why : TxnError) → Refuses z mid left needed Asks mid.knows.participant mid.knows.participant why → Refuses z old new needed More found after why
+  pub refused_within : (Asks More : List Entry → Type 0) → ((entries : List Entry) → Asks entries → IsLegal (new.knows.participant.seen ++ entries) → More entries) → (why : TxnError) → Refuses z mid left needed Asks mid.knows.participant mid.knows.participant why → RefusesWith Kept z old new needed More found after why
   refused_within Asks More wider Memory c = plain c
   refused_within Asks More wider (Stopped n) c = (c.0 ∙ same_length, found_in true c.1, more (stopped n ∷ []) c.2)
   refused_within Asks More wider (NumbersFull published limit) c = (c.0 ∙ same_length, c.1, found_in false c.2, c.3, more (based_at published c.2.world.installed.last.segment.base ∷ []) c.4)

@@ -1,9 +1,12 @@
 pub mod Goes
+mod Each
+pub mod OneName
+mod Committed
 mod MayPut
-mod OneName
 mod UnderLog
 mod DirectWrites
 mod BeforeLog
 mod Ends
+mod GroupEnds
 mod RollsBack
 mod Recorded

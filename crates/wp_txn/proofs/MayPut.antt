@@ -1,7 +1,8 @@
 -- An entry of a seat's own transaction or direct write may come next, behind the log that the seat holds.
-use Rattle.std.proofs.Common.{◌≡◌, ⊎_elim, inl, inr, ℕ, ◌<◌, ◌≤◌, ◌||◌, Bool, true, false, true≢false, List, [], ◌∷◌, ◌++◌, refl, sym, subst, ap, ◌∙◌, Option, Some, None, is_some, append_assoc, arith}
+use Rattle.std.proofs.Common.{◌≡◌, ◌≢◌, ⊎_elim, inl, inr, ℕ, ◌+◌, ◌<◌, ◌≤◌, ◌||◌, ◌&&◌, not, Bool, true, false, true≢false, List, [], ◌∷◌, ◌++◌, length, refl, sym, subst, ap, ◌∙◌, Option, Some, None, is_some, append-nil, append_assoc, ne_eqb, arith}
 use Rattle.std.specs.Prelude.{option_map}
 use Rattle.std.specs.FinMap as finite
+use Rattle.std.specs.List.{AllByRecursion}
 use Rattle.std.specs.FinSet as set
 use Rattle.std.specs.Str.{bytes_eq}
 use Rattle.std.proofs.lemmas.Slice.Eq.{bytes_eq-Decides}
@@ -14,11 +15,11 @@ use Rattle.wp_model.specs.declared.entry.Entry.TheVariants.{Write, Prepare, Comm
 use Rattle.wp_model.specs.declared.holder.Holder.TheVariants.{Txn}
 use Rattle.wp_model.specs.LockState.{is_among_keys}
 use Rattle.wp_model.proofs.BatchLemmas.{batch_ascends}
-use Rattle.wp_model.proofs.Entries.{entry_at_old, undecided_within}
+use Rattle.wp_model.proofs.Entries.{entry_at_old, undecided_within, undone_after}
 use Rattle.wp_model.proofs.Found.{found_named}
 use Rattle.wp_history_laws.proofs.Growth.{legal_next, length_next}
 use Rattle.wp_history_laws.proofs.Held.{prior_to}
-use Rattle.wp_history_laws.proofs.Undecided.{close_follows}
+use Rattle.wp_history_laws.proofs.Undecided.{close_follows, undecided_old}
 use Rattle.wp_fields.specs.declared.format.Format.{Format}
 use Rattle.wp_fields.specs.declared.format.Format.TheVariants.{One, Two}
 use Rattle.wp_entry.specs.Record.{last_number}
@@ -34,9 +35,12 @@ use Rattle.wp_rule.proofs.Knows.{at_sound, noted_is}
 use Rattle.wp_parts.specs.Log.{LogState}
 use Rattle.wp_records.specs.Records.{OwnsEntry, MayPut}
 use Rattle.wp_shared.specs.Seats.{SharedState, SeatState, place_at}
+use Rattle.wp_txn.specs.Groups.{their_commits}
 use Rattle.wp_txn.specs.Recording.{OpensLog}
 use Rattle.wp_open_txns.specs.Txn.{OpenState, PreparedState, HasOpen, HasPrepared}
 use Rattle.wp_open_txns.proofs.Keys.{changed_one}
+use Rattle.wp_txn.proofs.Committed.{first_of}
+use Rattle.wp_txn.proofs.Each.{all_in, all_of, all_with, HaveOtherNames}
 
 -- ---- numbers
 
@@ -188,12 +192,6 @@ module _ {D : Type 0} (z : SharedState D) (old new : SeatState) (log : LogState)
       came = λ other batch y key e. absurd (true≢false (sym (ap (λ (it : Entry). is_prepare (Some it)) e) ∙ ends));
     }
 
-    pub may_commit : 1 ≤ needed → MayPut new.knows history (Commit x.number ∷ [])
-    may_commit one = record {
-      legal = grows_by (Commit x.number) one (record { orderly = record { ascending = refl; names_undecided = undecided_still; undo_is_closed = nothing_undone; keys_are_free = tt }; restores_prior = tt });
-      owned = (owns_end history (Commit x.number) refl refl stands_still refl (λ key changed. ap (λ (b : List Change). is_changed b key) (sym (ap prepared_batch stands_still)) ∙ changed), tt);
-    }
-
     -- what is restored is what its keys have in the history
     pub may_roll_back : 2 ≤ needed → (restored : List Change) → is_batch restored ≡ true → restored ≡ prior history (batch_at history x.number) → MayPut new.knows history (Undo x.number restored ∷ Close x.number ∷ [])
     may_roll_back two restored whole is =
@@ -211,3 +209,45 @@ module _ {D : Type 0} (z : SharedState D) (old new : SeatState) (log : LogState)
             (owns_end grown (Close x.number) refl refl there refl (λ key changed. ap (λ (c : List Change). is_changed c key) (sym (ap prepared_batch there)) ∙ changed), tt),
           );
         }
+
+  -- ---- prepared transactions, which Commits decide
+
+  -- its prepare stands in this history, and is undecided there
+  abbrev StandsUndecided : List Entry → PreparedState → Type 0
+  StandsUndecided before x = (entry_at before x.number ≡ Some (Prepare x.name x.batch)) × (is_undecided before x.number ≡ true)
+
+  -- ... and so it does behind the Commit of another
+  stands_past : (before : List Entry) (x y : PreparedState) → x.name ≢ y.name → StandsUndecided before x → StandsUndecided before y → StandsUndecided (before ++ Commit x.number ∷ []) y
+  stands_past before x y apart here there =
+      let within = (undecided_within before y.number there.1).1 in
+      let other : x.number ≢ y.number = λ same. apart (same_name x.name x.batch y.name y.batch (same_some (Prepare x.name x.batch) (Prepare y.name y.batch) (sym here.0 ∙ ap (entry_at before) same ∙ there.0))) in (
+        entry_at_old before (Commit x.number ∷ []) y.number within ∙ there.0,
+        undecided_old before (Commit x.number) y.number within ∙ (λ i. (there.1 i && not (ne_eqb x.number y.number other i))),
+      )
+
+  commits_next : (xs : List PreparedState) (before : List Entry) → IsLegal before → undone_last before ≡ None → length before + length xs < log_end → AllByRecursion (HasPrepared old) xs → AllByRecursion (StandsUndecided before) xs → HaveOtherNames xs
+      → MayPut new.knows before (their_commits xs)
+  commits_next [] before legal none few has stand apart = record { legal = subst IsLegal (sym (append-nil before)) legal; owned = tt }
+  commits_next (x ∷ others) before legal none few has stand apart =
+      let entry : Entry = Commit x.number in
+      let grown : List Entry = before ++ entry ∷ [] in
+      let long = length_next before entry in
+      let more = commits_next others grown
+      (legal_next before entry legal (record { orderly = record { ascending = refl; names_undecided = stand.0.1; undo_is_closed = none; keys_are_free = tt }; restores_prior = tt }) (omega (arith, few)))
+      (undone_after before [] entry)
+      (omega (arith, few, long))
+      has.1
+      (all_of (StandsUndecided grown) others (λ y there. stands_past before x y (all_in (λ w. x.name ≢ w.name) others y apart.0 there) stand.0 (all_in (StandsUndecided before) others y stand.1 there)))
+      apart.1 in
+      record {
+        legal = subst IsLegal (first_of before x others) more.legal;
+        owned = (owns_end x has.0 before entry refl refl stand.0.0 refl (λ key changed. ap (λ (b : List Change). is_changed b key) (sym (ap prepared_batch stand.0.0)) ∙ changed), more.owned);
+      }
+
+  pub may_commit : (xs : List PreparedState) → length xs ≤ needed → AllByRecursion (HasPrepared old) xs → HaveOtherNames xs → MayPut new.knows history (their_commits xs)
+  may_commit xs room has apart =
+      let a = o.numbers in let b = numbers_end log.wal.format in
+      commits_next xs history legal_now nothing_undone (omega (arith, a, b, room)) has (all_with (HasPrepared old) (StandsUndecided history) xs (λ x h. (stands_still x h, undecided_still x h)) has) apart
+
+  pub all_named_still : (xs : List PreparedState) → AllByRecursion (HasPrepared old) xs → AllByRecursion (λ x. named history x.name ≡ Some x.number) xs
+  all_named_still xs has = all_with (HasPrepared old) (λ x. named history x.name ≡ Some x.number) xs (λ x h. named_still x h) has

@@ -1,6 +1,8 @@
 -- Which records a seat may put, and what may be noted of them.
-use Rattle.std.proofs.Common.{◌≡◌, inl, inr, true, List, [], ◌∷◌, refl, sym, subst, Some, arith}
+use Rattle.std.proofs.Common.{◌≡◌, inl, inr, true, List, [], ◌∷◌, length, refl, sym, subst, Some, arith}
+use Rattle.std.proofs.lemmas.List.{length-map}
 use Rattle.wp_model.specs.Batch.{key_of, is_batch}
+use Rattle.wp_model.specs.CachePlace.{NoneShare}
 use Rattle.wp_model.specs.declared.change.Change.{Change}
 use Rattle.wp_model.specs.declared.entry.Entry.{Entry}
 use Rattle.wp_model.specs.declared.entry.Entry.TheVariants.{Write, Prepare, Commit, Undo, Close}
@@ -8,12 +10,14 @@ use Rattle.wp_core.specs.Lists.{IsIn}
 use Rattle.wp_core.specs.Views.{direct_free}
 use Rattle.wp_shared.specs.Seats.{SharedState, SeatState}
 use Rattle.wp_open_txns.specs.Txn.{OpenState, PreparedState, HasOpen, HasPrepared}
+use Rattle.wp_txn.specs.Groups.{numbers_of, their_commits, ArePrepared}
 use Rattle.wp_txn.specs.Recording.{IsEndOf, MayNote, MayRecord, HadPrior}
 use Rattle.wp_txn.specs.declared.recording.Noting.{Noting}
 use Rattle.wp_txn.specs.declared.recording.Noting.TheVariants as note
-use Rattle.wp_txn.proofs.MayPut.{may_write_direct, may_write_open, may_prepare, may_commit, may_roll_back, named_still}
+use Rattle.wp_txn.proofs.Each.{other_names}
+use Rattle.wp_txn.proofs.MayPut.{may_write_direct, may_write_open, may_prepare, may_commit, may_roll_back, named_still, all_named_still}
 use Rattle.wp_txn.proofs.RollsBack.{KeysKeepValues, restores}
-use Rattle.wp_txn.proofs.UnderLog.{one_apart, both_apart}
+use Rattle.wp_txn.proofs.UnderLog.{one_apart, both_apart, none_share_apart}
 
 module _ {D : Type 0} (z : SharedState D) (s : SeatState) (entries : List Entry) where
   -- the entries are these
@@ -35,16 +39,17 @@ module _ {D : Type 0} (z : SharedState D) (s : SeatState) (entries : List Entry)
     apart = λ n. one_apart z.cells n (Prepare x.name x.batch);
   })
 
-  module _ (x : PreparedState) (kind : Noting) (h : HasPrepared s x) where
-    pub records_commit : entries ≡ Commit x.number ∷ [] → ((history : List Entry) → IsEndOf x.name history (Commit x.number ∷ []) → MayNote kind history (Commit x.number ∷ [])) → MayRecord z s entries kind
-    records_commit is may_note = as_made _ _ is (record {
-      may = λ t log o. (may_commit z s t log 1 o x h (omega arith), may_note log.state.history (x.number, named_still z s t log 1 o x h, inl refl));
-      apart = λ n. one_apart z.cells n (Commit x.number);
-    })
+  pub records_commits : (xs : List PreparedState) (kind : Noting) → entries ≡ their_commits xs → ArePrepared s xs → NoneShare z.cells (numbers_of xs) → ((history : List Entry) → IsEndOf xs history (their_commits xs) → MayNote kind history (their_commits xs))
+      → MayRecord z s entries kind
+  records_commits xs kind is has share may_note =
+      let long = length-map (numbers_of xs) (λ p. Commit p) in let same = length-map xs (λ x. x.number) in as_made _ _ is (record {
+        may = λ t log o. (may_commit z s t log (length (their_commits xs)) o xs (omega (arith, long, same)) has.0 (other_names xs has.1), may_note log.state.history (all_named_still z s t log (length (their_commits xs)) o xs has.0, inl refl));
+        apart = λ n. none_share_apart z.cells n (numbers_of xs) share;
+      })
 
-    pub records_rollback : (prior : List Change) → entries ≡ Undo x.number prior ∷ Close x.number ∷ [] → is_batch prior ≡ true → KeysKeepValues → HadPrior s x.number x.batch prior
-        → ((history : List Entry) → IsEndOf x.name history (Undo x.number prior ∷ Close x.number ∷ []) → MayNote kind history (Undo x.number prior ∷ Close x.number ∷ [])) → MayRecord z s entries kind
-    records_rollback prior is whole law had may_note = as_made _ _ is (record {
-      may = λ t log o. (may_roll_back z s t log 2 o x h (omega arith) prior whole (restores z s t log 2 o x h law prior had), may_note log.state.history (x.number, named_still z s t log 2 o x h, inr (prior, refl)));
-      apart = λ n. both_apart z.cells n x.number prior;
-    })
+  pub records_rollback : (x : PreparedState) (kind : Noting) → HasPrepared s x → (prior : List Change) → entries ≡ Undo x.number prior ∷ Close x.number ∷ [] → is_batch prior ≡ true → KeysKeepValues → HadPrior s x.number x.batch prior
+      → ((history : List Entry) → IsEndOf (x ∷ []) history (Undo x.number prior ∷ Close x.number ∷ []) → MayNote kind history (Undo x.number prior ∷ Close x.number ∷ [])) → MayRecord z s entries kind
+  records_rollback x kind h prior is whole law had may_note = as_made _ _ is (record {
+    may = λ t log o. (may_roll_back z s t log 2 o x h (omega arith) prior whole (restores z s t log 2 o x h law prior had), may_note log.state.history ((named_still z s t log 2 o x h, tt), inr (prior, refl)));
+    apart = λ n. both_apart z.cells n x.number prior;
+  })

@@ -157,7 +157,7 @@ pub asks_prior : {D : Type 0} (z : SharedState D) (old new : SeatState) (x : Pre
 asks_prior z old new x restored asked h grown is legal =
     let history = new.knows.participant.seen in
     let k = after_front history (Undo x.number restored) (Close x.number ∷ []) (subst (λ (es : List Entry). IsLegal (history ++ es)) is legal) in
-    is ∙ ap (λ (b : List Change). Undo x.number b ∷ Close x.number ∷ []) (k.restores_prior ∙ ap (prior history) (ap prepared_batch (stands_before z old new x h history grown)))
+    is ∙ ap (λ (b : List Change). Undo x.number b ∷ Close x.number ∷ []) (k.restores_prior ∙ ap (prior history) (ap prepared_batch (stands_before old x h history grown)))
 
 -- ---- the transaction is rolled back
 
@@ -176,7 +176,7 @@ module _ {D : Type 0} (z : SharedState D) (old start mid : SeatState) (x : Prepa
       (rollback_decides before_it x.number restored r.1.1.legal n (r.0 ∙ ap (λ (es : List Entry). length es) r.1.1.put.seen))
 
   restored_is : restored ≡ prior before_it x.batch
-  restored_is = (after_front before_it (Undo x.number restored) (Close x.number ∷ []) r.1.1.legal).restores_prior ∙ ap (prior before_it) (ap prepared_batch (stands_before z start mid x h before_it r.1.1.put.grown))
+  restored_is = (after_front before_it (Undo x.number restored) (Close x.number ∷ []) r.1.1.legal).restores_prior ∙ ap (prior before_it) (ap prepared_batch (stands_before start x h before_it r.1.1.put.grown))
 
   -- it had no pin
   mid_free : IsFree z.table mid
@@ -185,14 +185,14 @@ module _ {D : Type 0} (z : SharedState D) (old start mid : SeatState) (x : Prepa
   -- it has the transaction until the record is put
   pub locked_still : HasLocked mid x.name x.batch x.locked
   locked_still =
-      locked_until z start start mid mid mid x.name None (Undo x.number restored ∷ Close x.number ∷ []) facts n (continues_none z start begins.free) r (continues_none z mid mid_free) refl x.batch x.locked (prepared_locked start x h)
+      locked_until z start start mid mid mid None (Undo x.number restored ∷ Close x.number ∷ []) facts n (continues_none z start begins.free) r (continues_none z mid mid_free) refl x.name x.batch x.locked (prepared_locked start x h)
 
   pub rolled_back : (new : SeatState) → Frees z mid new x.name → (fits z.cells (record { number = x.number; decision = n }) ≡ true → IsIn (has_left x.number) new.knows.notes) → RollsBack z old x n new
   rolled_back new frees gone =
       let entries : List Entry = Undo x.number restored ∷ Close x.number ∷ [] in
       let Put : List Change → Type 0 = λ b. HasPut (IsApartFrom x.name) z old new old.knows.participant (without_transaction x.name old.knows.participant) before_it (Undo x.number b ∷ Close x.number ∷ []) in (
-        number_still z old start mid mid new x.name None entries facts n begins r (continues_none z mid mid_free) refl frees,
-        (before_it, subst Put restored_is (put_and_freed z old start mid mid new x.name None entries facts n begins r (continues_none z mid mid_free) refl frees)),
+        number_still z old start mid mid new None entries facts n begins r (continues_none z mid mid_free) refl x.name frees,
+        (before_it, subst Put restored_is (put_and_freed z old start mid mid new None entries facts n begins r (continues_none z mid mid_free) refl x.name frees)),
         gone,
         frees.freed,
       )

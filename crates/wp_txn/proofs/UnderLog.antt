@@ -1,19 +1,22 @@
 -- A seat that took the write turn, put a record into the history or could not, and gave the turn.
-use Rattle.std.proofs.Common.{◌≡◌, ◌⊎◌, ⊎_elim, inl, inr, ℕ, suc, ◌+◌, ◌-◌, ◌^◌, ◌≤◌, ◌<◌, Bool, cond, true, false, List, [], ◌∷◌, ◌++◌, length, min, refl, sym, subst, ap, ◌∙◌, Some, None, is_some, length-append, eq-eqb, arith}
+use Rattle.std.proofs.Common.{◌≡◌, ◌⊎◌, ⊎_elim, inl, inr, ℕ, suc, ◌+◌, ◌-◌, ◌^◌, ◌≤◌, ◌<◌, Bool, cond, true, false, List, [], ◌∷◌, ◌++◌, length, min, refl, sym, subst, ap, ◌∙◌, Option, Some, is_some, map, length-append, append-nil, append_assoc, arith}
 use Rattle.std.specs.Prelude.{Result, Ok, Err}
 use Rattle.std.specs.FinMap as finite
+use Rattle.std.specs.List.{AllByRecursion}
 use Rattle.std.proofs.lemmas.Slice.Eq.{bytes_eq-Decides}
+use Rattle.wp_model.specs.CachePlace.{cache_place, HasOwnPlace, NoneShare}
 use Rattle.wp_model.specs.History.{prepared_name, name_at, named}
 use Rattle.wp_model.specs.Legal.{IsLegal}
 use Rattle.wp_model.specs.declared.change.Change.{Change}
 use Rattle.wp_model.specs.declared.entry.Entry.{Entry}
 use Rattle.wp_model.specs.declared.segment.Segment.{Segment}
 use Rattle.wp_model.specs.declared.entry.Entry.TheVariants.{Prepare, Commit, Undo, Close}
+use Rattle.wp_model.proofs.Entries.{entry_at_old, undecided_within}
 use Rattle.wp_model.proofs.Found.{found_named}
 use Rattle.wp_fields.specs.declared.format.Format.{Format}
 use Rattle.wp_fields.specs.declared.format.Format.TheVariants.{One, Two}
 use Rattle.wp_entry.specs.Record.{last_number}
-use Rattle.wp_commits.specs.Ways.{way_of, ways_of, MayPrecede, AreApart}
+use Rattle.wp_commits.specs.Ways.{way_of, ways_of, IsElsewhere, AreElsewhere, MayPrecede, AreApart}
 use Rattle.wp_commits.specs.declared.way.Way.{Way}
 use Rattle.wp_commits.specs.declared.way.Way.TheVariants.{Undecided, InWord, Delayed}
 use Rattle.wp_judge.specs.Words.{fits}
@@ -24,7 +27,7 @@ use Rattle.wp_core.specs.Lists.{IsIn}
 use Rattle.wp_core.specs.Steps.{find_log_closed, find_base}
 use Rattle.wp_core.specs.States.{Content, WriteState, writes}
 use Rattle.wp_core.specs.Turns.{write_turn}
-use Rattle.wp_core.specs.Views.{Event, Fact, stopped, based_at, undecided_at, unprepared}
+use Rattle.wp_core.specs.Views.{Event, Fact, words_stay, stopped, based_at, undecided_at, unprepared}
 use Rattle.wp_core.specs.World.{Participant, Actor, World}
 use Rattle.wp_core.specs.Sound.Actors.{StartsWith}
 use Rattle.wp_core.specs.Sound.Views.{guarded_by}
@@ -43,21 +46,25 @@ use Rattle.wp_parts.specs.Log.{LogState, IsLog, format_at}
 use Rattle.wp_parts.specs.Parts.{log_first}
 use Rattle.wp_records.specs.declared.error.WriteError.{WriteError}
 use Rattle.wp_records.specs.declared.error.WriteError.TheVariants as write_error
-use Rattle.wp_records.specs.Records.{numbers_behind, putting, failing, MayPut, IsPut, IsNotPut, IsUncalled}
+use Rattle.wp_records.specs.Records.{numbers_behind, putting, failing, OwnsEntries, MayPut, IsPut, IsNotPut, AppendsOnce, FailsAppend, IsUncalled}
 use Rattle.wp_records.specs.Writing.{HoldsWrite, FoundLog}
 use Rattle.wp_shared.specs.Calls.{IsLoose, ContinuesWith, Continues, with_events}
 use Rattle.wp_shared.specs.Seats.{SharedState, SeatState, IsFree, place_at}
 use Rattle.wp_shared.specs.Turns.{HoldsTurn, TookLog, Given}
 use Rattle.wp_shared.proofs.Onward.{starts_on, loose_under}
 use Rattle.wp_open_txns.specs.Actors.{with_stopped, with_base}
-use Rattle.wp_shared.specs.Notes.{with_note, seat_of}
-use Rattle.wp_txn.specs.Recording.{OpensLog, notes_of, PutsNoting, Records, answer_of}
+use Rattle.wp_shared.specs.Notes.{with_note, with_notes, noting_only, seat_of}
+use Rattle.wp_open_txns.specs.Txn.{PreparedState}
+use Rattle.wp_txn.specs.Groups.{their_commits}
+use Rattle.wp_txn.specs.Recording.{OpensLog, notes_of_each, notes_of, IsRollback, IsEndOf, IsDecided, NotesMore, PutsNoting, Records, answer_of}
 use Rattle.wp_txn.specs.declared.recording.Noting.{Noting}
 use Rattle.wp_txn.specs.declared.recording.Noting.TheVariants as note
-use Rattle.wp_txn.specs.Writes.{HasPut, Refuses, LeavesDevice}
+use Rattle.wp_txn.specs.Writes.{HasPut, HadLog, Refuses, LeavesDevice}
 use Rattle.wp_open_txns.specs.declared.error.TxnError.TheVariants.{NumbersFull, Stopped}
 use Rattle.wp_open_txns.proofs.Made.{all_made}
-use Rattle.wp_txn.proofs.OneName.{named_is, name_is_free}
+use Rattle.wp_txn.proofs.Committed.{commits_free}
+use Rattle.wp_txn.proofs.Each.{all_in, all_of}
+use Rattle.wp_txn.proofs.OneName.{named_is}
 use Rattle.wp_txn.proofs.RollsBack.{rollback_frees}
 
 -- ---- steps under the write turn
@@ -143,13 +150,13 @@ module _ {D : Type 0} (z : SharedState D) (old s : SeatState) (log : LogState) (
     closed_is = ap (λ (d : WriteState). d.closed) took.is ∙ closed;
   }
 
+  -- what came about of the log that was found
+  pub had_log : (CameAbout : LogState → LogState → Type 0) (left : LogState) → IsLog log → log_first z.first ≡ Some left.first → IsLog left → CameAbout log left → HadLog z took.world.writes CameAbout
+  had_log CameAbout left is_log of_store still_log came_about = record { before = log; left = left; of_store = took.of_store; still_of_store = of_store; before_is = sym took.is; log = is_log; still_log = still_log; came_about = came_about }
+
   -- it was given back with its device uncalled
   left_alone : (left : LogState) (new : SeatState) (b : Bool) → new.knows.participant.seen ≡ history → log.state.closed ≡ b → IsLog log → log_first z.first ≡ Some left.first → IsLog left → IsUncalled log left → LeavesDevice z was old new
-  left_alone left new b is closed is_log of_store still_log uncalled = inr (
-    b,
-    found_then new.knows.participant.seen b is closed,
-    record { before = log; left = left; of_store = took.of_store; still_of_store = of_store; before_is = sym took.is; log = is_log; still_log = still_log; came_about = uncalled },
-  )
+  left_alone left new b is closed is_log of_store still_log uncalled = inr (b, found_then new.knows.participant.seen b is closed, had_log IsUncalled left is_log of_store still_log uncalled)
 
   -- it holds this turn alone
   pub alone : IsFree z.table old → HoldsTurn z s (writes log.state) [] []
@@ -243,13 +250,14 @@ module _ {D : Type 0} (z : SharedState D) (old s t new : SeatState) (log left : 
   abbrev it : Participant
   it = old.knows.participant
 
-  put_back : IsPut z s log entries t left → HasPut IsLoose z old new it it before_it entries
-  put_back put =
+  put_back : IsPut z s log entries t left → AppendsOnce log entries left → HasPut IsLoose z old new it it before_it entries
+  put_back put once =
       let seen_there : t.knows.participant.seen ≡ before_it ++ entries = ap (λ (a : Actor). a.participant.seen) put.knows in record {
         grown = o.took.grown;
         found_log = found_then z old s log o.took before_it false refl o.running;
         seen = ap (λ (x : SeatState). x.knows.participant.seen) gives.goes.same ∙ seen_there;
         within = subst (λ (n : ℕ). n ≤ limit_at z o.took.world.installed.last.segment.base) (sym (length-append before_it entries)) o.within;
+        appended = had_log z old s log o.took (λ before after. AppendsOnce before entries after) left o.is_log put.holds.of_store still_log once;
         goes_on = given_back _ z old t new (record it { own = it.own ++ numbers_behind (length before_it) entries }) gives (put.same_by ∙ same_by z old s log o.took)
             (starts_on it.seen before_it t.knows.participant.seen o.took.grown (entries, seen_there))
             (ap (λ (a : Actor). a.participant) put.knows ∙ ap (putting before_it entries) (participant_then z old s log o.took)
@@ -273,10 +281,10 @@ module _ {D : Type 0} (z : SharedState D) (old s t new : SeatState) (log left : 
 
   pub recorded : (outcome : Result (Unit {0}) WriteError) → PutsNoting z s log entries (facts (length left.state.history)) outcome t left → Records z old entries facts (answer_of outcome (length left.state.history)) new
   recorded (Ok done) p =
-      let put = put_back p.0 in (
+      let put = put_back p.0 p.1 in (
         ap (λ (es : List Entry). length es) (p.0.history ∙ sym put.seen),
         (before_it, record { put = put; legal = legal }),
-        λ fact there. gives.goes.noted fact (loose_under write_turn fact (loose (length left.state.history) fact there)) (p.1 fact there),
+        λ fact there. gives.goes.noted fact (loose_under write_turn fact (loose (length left.state.history) fact there)) (p.2 fact there),
       )
   recorded (Err write_error.Memory) p =
       let back = not_put_back p.0 false (λ (x : Participant). x) (λ es x. refl) p.3 in
@@ -291,16 +299,7 @@ module _ {D : Type 0} (z : SharedState D) (old s t new : SeatState) (log left : 
             refl,
             back.1,
             subst (λ (h : List Entry). IsLegal (h ++ entries)) (sym back.0) legal,
-            record {
-              before = log;
-              left = left;
-              of_store = o.holds.of_store;
-              still_of_store = p.0.holds.of_store;
-              before_is = sym o.took.is;
-              log = o.is_log;
-              still_log = still_log;
-              came_about = p.1;
-            },
+            had_log z old s log o.took (λ before after. FailsAppend before entries after) left o.is_log p.0.holds.of_store still_log p.1,
           ),
         ),
         tt,
@@ -330,41 +329,82 @@ both_apart cells n p batch = (by_fit (fits cells (record { number = n; decision 
     by_fit true = inl refl
     by_fit false = tt
 
+-- pairs of prepares of which no two have one place
+elsewhere : (cells p n : ℕ) (numbers : List ℕ) → HasOwnPlace cells p numbers → AreElsewhere cells (cache_place cells p) (ways_of cells n (map (λ q. Commit q) numbers))
+elsewhere cells p n [] own = tt
+elsewhere cells p n (q ∷ others) own = (by_fit (fits cells (record { number = q; decision = n })), elsewhere cells p (suc n) others own.1)
+  where
+    by_fit : (b : Bool) → IsElsewhere cells (cache_place cells p) (cond b (InWord q n) (Delayed q n))
+    by_fit true = own.0
+    by_fit false = tt
+
+pub none_share_apart : (cells n : ℕ) (numbers : List ℕ) → NoneShare cells numbers → AreApart cells (ways_of cells n (map (λ q. Commit q) numbers))
+none_share_apart cells n [] share = tt
+none_share_apart cells n (p ∷ others) share = (by_fit (fits cells (record { number = p; decision = n })), none_share_apart cells (suc n) others share.1)
+  where
+    by_fit : (b : Bool) → MayPrecede cells (cond b (InWord p n) (Delayed p n)) (ways_of cells (suc n) (map (λ q. Commit q) others))
+    by_fit true = inr (elsewhere cells p (suc n) others share.0)
+    by_fit false = tt
+
 -- ---- what is noted of a record
 
 -- what is so of a fact is so of each that is it
 about_one : (fact : Fact) → IsLoose fact → (other : Fact) → IsIn other (fact ∷ []) → IsLoose other
 about_one fact none other there = ⊎_elim (λ (e : fact ≡ other). ap guarded_by (sym e) ∙ none) (λ (no : ⊥). absurd no) there
 
+each_loose : (xs : List PreparedState) (fact : Fact) → IsIn fact (notes_of_each xs) → IsLoose fact
+each_loose [] fact there = absurd there
+each_loose (x ∷ others) fact there = ⊎_elim (λ (e : unprepared x.name ≡ fact). ap guarded_by (sym e)) (λ (k : IsIn fact (notes_of_each others)). each_loose others fact k) there
+
 -- that needs no turn
 pub noting_loose : (noting : Noting) (n : ℕ) (fact : Fact) → IsIn fact (notes_of noting n) → IsLoose fact
 noting_loose note.Nothing n fact there = absurd there
 noting_loose (note.Undecided name) n fact there = about_one (undecided_at name.now n) refl fact there
-noting_loose (note.Unprepared name) n fact there = about_one (unprepared name.now) refl fact there
+noting_loose (note.Unprepared txns) n fact there = each_loose txns.now fact there
 
--- the fact is noted behind the record
-pub put_noting : {D : Type 0} (z : SharedState D) (s t u : SeatState) (log left : LogState) (entries : List Entry) (fact : Fact) → IsPut z s log entries t left → u ≡ seat_of t (with_note fact t.knows)
-    → IsPut z s log entries u left × ((other : Fact) → IsIn other (fact ∷ []) → IsIn other u.knows.notes)
-put_noting z s t u log left entries fact put is =
+pub one_noted : (s t : SeatState) (fact : Fact) → t ≡ seat_of s (with_note fact s.knows) → NotesMore s (fact ∷ []) t
+one_noted s t fact is = subst (NotesMore s (fact ∷ [])) (sym is) (record {
+  same = refl;
+  kept = λ other there. inr there;
+  noted = λ other there. ⊎_elim (λ (e : fact ≡ other). inl e) (λ (no : ⊥). absurd no) there;
+})
+
+in_either : {X : Type 0} (front back : List X) (x : X) → IsIn x (front ++ back) → IsIn x front ⊎ IsIn x back
+in_either [] back x there = inr there
+in_either (y ∷ front) back x there = ⊎_elim (λ (e : y ≡ x). inl (inl e))
+    (λ (k : IsIn x (front ++ back)). ⊎_elim (λ (a : IsIn x front). inl (inr a)) (λ (b : IsIn x back). inr b) (in_either front back x k)) there
+
+-- these, and then those
+pub then_noted : (s t u : SeatState) (facts more : List Fact) → NotesMore s facts t → NotesMore t more u → NotesMore s (facts ++ more) u
+then_noted s t u facts more first second = record {
+  same = second.same ∙ ap (noting_only u.knows.notes) first.same;
+  kept = λ fact there. second.kept fact (first.kept fact there);
+  noted = λ fact there. ⊎_elim (λ (k : IsIn fact facts). second.kept fact (first.noted fact k)) (second.noted fact) (in_either facts more fact there);
+}
+
+-- the facts are noted behind the record
+pub put_noting : {D : Type 0} (z : SharedState D) (s t u : SeatState) (log left : LogState) (entries : List Entry) (facts : List Fact) → IsPut z s log entries t left → AppendsOnce log entries left → NotesMore t facts u → PutsNoting z s log entries facts (Ok tt) u left
+put_noting z s t u log left entries facts put once more =
     let h = put.holds in
-    subst (λ (x : SeatState). IsPut z s log entries x left × ((other : Fact) → IsIn other (fact ∷ []) → IsIn other x.knows.notes)) (sym is) (
+    subst (λ (x : SeatState). PutsNoting z s log entries facts (Ok tt) x left) (sym more.same) (
       record {
         holds = record {
           turn = record { same_table = h.turn.same_table; live = h.turn.live; held = h.turn.held; turns = h.turn.turns };
           pending = h.pending;
           seen = h.seen;
           of_store = h.of_store;
-          words = record { bound = h.words.bound; words = h.words.words; noted = inr h.words.noted; are_published = h.words.are_published };
+          words = record { bound = h.words.bound; words = h.words.words; noted = more.kept (words_stay h.words.bound h.words.words) h.words.noted; are_published = h.words.are_published };
         };
         same_by = put.same_by;
         history = put.history;
         running = put.running;
         waited = put.waited;
-        knows = ap (with_note fact) put.knows;
-        notes = λ other turnless apart there. inr (put.notes other turnless apart there);
-        words = λ bound words there. inr (put.words bound words there);
+        knows = ap (with_notes u.knows.notes) put.knows;
+        notes = λ other turnless apart there. more.kept other (put.notes other turnless apart there);
+        words = λ bound words there. more.kept _ (put.words bound words there);
       },
-      λ other there. ⊎_elim (λ (e : fact ≡ other). inl e) (λ (no : ⊥). absurd no) there,
+      once,
+      more.noted,
     )
 
 -- ---- what is noted behind a record
@@ -376,12 +416,19 @@ prepare_named history name batch legal =
     named_is (history ++ Prepare name batch ∷ []) legal (length history + 1) name (undecided_at_next history (Prepare name batch) (before history (Prepare name batch) legal) refl) (ap prepared_name (entry_at_next history (Prepare name batch)))
     ∙ ap (λ (n : ℕ). Some n) (sym last)
 
--- a decided prepare is not
-commit_frees : (history : List Entry) (name : List ℕ) (p : ℕ) → IsLegal (history ++ Commit p ∷ []) → named history name ≡ Some p → named (history ++ Commit p ∷ []) name ≡ None
-commit_frees history name p legal is = name_is_free history (Commit p) p name legal is (eq-eqb p p refl) refl
-
 name_of : (history : List Entry) (name : List ℕ) (p : ℕ) → named history name ≡ Some p → Some (name_at history p) ≡ Some name
 name_of history name p is = ap (λ (n : List ℕ). Some n) ((bytes_eq-Decides (name_at history p) name).0 (found_named history name p is).1)
+
+-- who puts Commits has the transactions of them
+has_each : (a : Actor) (xs : List PreparedState) (earlier more : List Entry) → OwnsEntries a (earlier ++ more) (their_commits xs) → AllByRecursion (λ x. named earlier x.name ≡ Some x.number) xs
+    → AllByRecursion (λ x. is_some (finite.get a.participant.transactions x.name) ≡ true) xs
+has_each a [] earlier more owned are = tt
+has_each a (x ∷ others) earlier more owned are =
+    let within = (undecided_within earlier x.number (found_named earlier x.name x.number are.0).0).1 in
+    let is : transaction_of (earlier ++ more) (Commit x.number) ≡ Some x.name = ap (λ (e : Option Entry). Some (prepared_name e)) (entry_at_old earlier more x.number within) ∙ name_of earlier x.name x.number are.0 in (
+      ap is_some (owned.0.transaction x.name is).1,
+      has_each a others earlier (more ++ Commit x.number ∷ []) (subst (λ (es : List Entry). OwnsEntries a es (their_commits others)) (append_assoc earlier more (Commit x.number ∷ [])) owned.1) are.1,
+    )
 
 module _ {D : Type 0} (z : SharedState D) (s t : SeatState) (log left : LogState) (entries : List Entry) (put : IsPut z s log entries t left) (may : MayPut s.knows log.state.history entries) (name : List ℕ) where
   abbrev behind : List Entry
@@ -406,15 +453,31 @@ module _ {D : Type 0} (z : SharedState D) (s t : SeatState) (log left : LogState
     pub prepare_is : named left.state.history name ≡ Some (length left.state.history)
     prepare_is = subst (λ (h : List Entry). named h name ≡ Some (length h)) (sym (put.history ∙ ap (λ (es : List Entry). behind ++ es) are)) (prepare_named behind name batch (legal_with (Prepare name batch ∷ []) are))
 
-  module _ (p : ℕ) (is : named behind name ≡ Some p) (ends : (entries ≡ Commit p ∷ []) ⊎ ((batch : List Change) × (entries ≡ Undo p batch ∷ Close p ∷ []))) where
-    pub end_has : is_some (finite.get t.knows.participant.transactions name) ≡ true
-    end_has = ⊎_elim
-        (λ (e : entries ≡ Commit p ∷ []). has_still (Commit p) [] e (name_of behind name p is))
-        (λ (e : (batch : List Change) × (entries ≡ Undo p batch ∷ Close p ∷ [])). has_still (Undo p e.0) (Close p ∷ []) e.1 (name_of behind name p is))
-        ends
+-- ---- and of those that it decides
 
-    pub end_none : named left.state.history name ≡ None
-    end_none = ap (λ (h : List Entry). named h name) put.history ∙ ⊎_elim
-        (λ (e : entries ≡ Commit p ∷ []). ap (λ (es : List Entry). named (behind ++ es) name) e ∙ commit_frees behind name p (legal_with (Commit p ∷ []) e) is)
-        (λ (e : (batch : List Change) × (entries ≡ Undo p batch ∷ Close p ∷ [])). ap (λ (es : List Entry). named (behind ++ es) name) e.1 ∙ rollback_frees behind p e.0 (legal_with (Undo p e.0 ∷ Close p ∷ []) e.1) name is)
-        ends
+module _ {D : Type 0} (z : SharedState D) (s t : SeatState) (log left : LogState) (entries : List Entry) (put : IsPut z s log entries t left) (may : MayPut s.knows log.state.history entries) where
+  commits_decided : (xs : List PreparedState) → entries ≡ their_commits xs → AllByRecursion (λ x. named log.state.history x.name ≡ Some x.number) xs → AllByRecursion (IsDecided t left.state.history) xs
+  commits_decided xs is are =
+      let history = log.state.history in
+      let may_these = subst (λ (es : List Entry). MayPut s.knows history es) is may in
+      let has = has_each s.knows xs history [] (subst (λ (es : List Entry). OwnsEntries s.knows es (their_commits xs)) (sym (append-nil history)) may_these.owned) are in
+      all_of (IsDecided t left.state.history) xs (λ x there. (
+        ap (λ (a : Actor). is_some (finite.get a.participant.transactions x.name)) put.knows ∙ all_in (λ y. is_some (finite.get s.knows.participant.transactions y.name) ≡ true) xs x has there,
+        ap (λ (h : List Entry). named h x.name) (put.history ∙ ap (λ (es : List Entry). history ++ es) is) ∙ commits_free xs history x may_these.legal (all_in (λ y. named history y.name ≡ Some y.number) xs x are there) there,
+      ))
+
+  rollback_decided : (xs : List PreparedState) → IsRollback xs entries → AllByRecursion (λ x. named log.state.history x.name ≡ Some x.number) xs → AllByRecursion (IsDecided t left.state.history) xs
+  rollback_decided [] is are = tt
+  rollback_decided (x ∷ []) is are =
+      let history = log.state.history in let batch = is.0 in (
+        (
+          has_still z s t log left entries put may x.name (Undo x.number batch) (Close x.number ∷ []) is.1 (name_of history x.name x.number are.0),
+          ap (λ (h : List Entry). named h x.name) (put.history ∙ ap (λ (es : List Entry). history ++ es) is.1)
+              ∙ rollback_frees history x.number batch (legal_with z s t log left entries put may x.name (Undo x.number batch ∷ Close x.number ∷ []) is.1) x.name are.0,
+        ),
+        tt,
+      )
+  rollback_decided (x ∷ y ∷ others) is are = absurd is
+
+  pub all_decided : (xs : List PreparedState) → IsEndOf xs log.state.history entries → AllByRecursion (IsDecided t left.state.history) xs
+  all_decided xs ends = ⊎_elim (λ (is : entries ≡ their_commits xs). commits_decided xs is ends.0) (λ (is : IsRollback xs entries). rollback_decided xs is ends.0) ends.1

@@ -1,8 +1,9 @@
 -- How a call puts a record of entries into the history, and what it does beside that.
-use Rattle.std.specs.Prelude.{◌≡◌, ◌⊎◌, ℕ, ◌+◌, ◌≤◌, false, List, [], ◌∷◌, ◌++◌, length, take, Some, None, Result, Ok, Err}
+use Rattle.std.specs.Prelude.{◌≡◌, ◌⊎◌, ℕ, ◌+◌, ◌≤◌, true, false, List, [], ◌∷◌, ◌++◌, length, map, take, Some, None, is_some, Result, Ok, Err}
+use Rattle.std.specs.List.{AllByRecursion}
 use Rattle.std.specs.FinMap as finite
 use Rattle.wp_model.specs.declared.entry.Entry.{Entry}
-use Rattle.wp_model.specs.declared.entry.Entry.TheVariants.{Prepare, Commit, Undo, Close}
+use Rattle.wp_model.specs.declared.entry.Entry.TheVariants.{Prepare, Undo, Close}
 use Rattle.wp_model.specs.History.{named}
 use Rattle.wp_model.specs.Legal.{IsLegal, prior}
 use Rattle.wp_model.specs.declared.change.Change.{Change}
@@ -14,10 +15,11 @@ use Rattle.wp_parts.specs.Log.{LogState, IsLog}
 use Rattle.wp_records.specs.declared.error.WriteError.{WriteError}
 use Rattle.wp_records.specs.declared.error.WriteError.TheVariants as write_error
 use Rattle.wp_commits.specs.Ways.{ways_of, AreApart}
-use Rattle.wp_records.specs.Records.{MayPut, IsPut, Puts}
+use Rattle.wp_records.specs.Records.{MayPut, IsPut, Puts, AppendsOnce}
 use Rattle.wp_records.specs.Writing.{HoldsWrite}
 use Rattle.wp_shared.specs.Calls.{IsLoose, ContinuesWith, Continues}
 use Rattle.wp_shared.specs.Limits.{limit_at}
+use Rattle.wp_shared.specs.Notes.{noting_only}
 use Rattle.wp_shared.specs.Seats.{SharedState, SeatState}
 use Rattle.wp_shared.specs.Turns.{TookLog}
 use Rattle.wp_open_txns.specs.declared.error.TxnError.{TxnError}
@@ -26,23 +28,44 @@ use Rattle.wp_txn.specs.declared.recording.Noting.TheVariants as noting
 use Rattle.wp_open_txns.specs.declared.error.TxnError.TheVariants.{Memory, Busy, LogFault}
 use Rattle.wp_open_txns.specs.Calls.{Keeps, Finds, LocksWere, LocksAre}
 use Rattle.wp_open_txns.specs.Turns.{IsNoDirect}
+use Rattle.wp_open_txns.specs.Txn.{PreparedState}
+use Rattle.wp_txn.specs.Groups.{their_commits}
 use Rattle.wp_txn.specs.Writes.{HasPut, Refuses, SawNoMore, MayLeaveDevice, writing_direct}
+
+-- of each of them that no undecided prepare has its name
+abbrev pub notes_of_each : List PreparedState → List Fact
+notes_of_each txns = map (λ txn. unprepared txn.name) txns
 
 -- what is noted of a record once it is put, where so many entries are published
 abbrev pub notes_of : Noting → ℕ → List Fact
 notes_of noting.Nothing n = []
 notes_of (noting.Undecided name) n = undecided_at name.now n ∷ []
-notes_of (noting.Unprepared name) n = unprepared name.now ∷ []
+notes_of (noting.Unprepared txns) n = notes_of_each txns.now
 
--- the entries decide the prepare that has the name in this history: a Commit, or an Undo and its Close
-abbrev pub IsEndOf : List ℕ → List Entry → List Entry → Type 0
-IsEndOf name history entries = (p : ℕ) × (named history name ≡ Some p) × ((entries ≡ Commit p ∷ []) ⊎ ((batch : List Change) × (entries ≡ Undo p batch ∷ Close p ∷ [])))
+-- the entries are the Undo and the Close of the one transaction
+abbrev pub IsRollback : List PreparedState → List Entry → Type 0
+IsRollback (txn ∷ []) entries = (batch : List Change) × (entries ≡ Undo txn.number batch ∷ Close txn.number ∷ [])
+IsRollback other entries = ⊥
 
--- it may be noted of these entries behind this history: they prepare the name, or decide the prepare that has it
+-- The entries decide these prepares, each the undecided one of its name in this history: a Commit of each, or an Undo and a Close.
+abbrev pub IsEndOf : List PreparedState → List Entry → List Entry → Type 0
+IsEndOf txns history entries = AllByRecursion (λ txn. named history txn.name ≡ Some txn.number) txns × ((entries ≡ their_commits txns) ⊎ IsRollback txns entries)
+
+-- it may be noted of these entries behind this history: they prepare the name, or decide these transactions
 abbrev pub MayNote : Noting → List Entry → List Entry → Type 0
 MayNote noting.Nothing history entries = Unit {0}
 MayNote (noting.Undecided name) history entries = (batch : List Change) × (entries ≡ Prepare name.now batch ∷ [])
-MayNote (noting.Unprepared name) history entries = IsEndOf name.now history entries
+MayNote (noting.Unprepared txns) history entries = IsEndOf txns.now history entries
+
+-- the seat has the transaction, and no undecided prepare of this history has its name
+abbrev pub IsDecided : SeatState → List Entry → PreparedState → Type 0
+IsDecided s history txn = (is_some (finite.get s.knows.participant.transactions txn.name) ≡ true) × (named history txn.name ≡ None)
+
+-- it noted these facts too, and is as it was but for that
+pub record NotesMore (old : SeatState) (facts : List Fact) (new : SeatState) : Type 0 where
+  pub same : new ≡ noting_only new.knows.notes old
+  pub kept : (fact : Fact) → IsIn fact old.knows.notes → IsIn fact new.knows.notes
+  pub noted : (fact : Fact) → IsIn fact facts → IsIn fact new.knows.notes
 
 -- The seat took the write turn with this log, which is running, and holds no other. So many entries more have their numbers within
 -- the limit of its segment, and the log's version has them. The device has what the log's state says.
@@ -61,7 +84,7 @@ pub record MayRecord {D : Type 0} (z : SharedState D) (s : SeatState) (entries :
 
 -- what a record leaves, behind which these facts are noted while the write turn is held
 abbrev pub PutsNoting : {D : Type 0} → SharedState D → SeatState → LogState → List Entry → List Fact → Result (Unit {0}) WriteError → SeatState → LogState → Type 0
-PutsNoting z old log entries facts (Ok done) new left = IsPut z old log entries new left × ((fact : Fact) → IsIn fact facts → IsIn fact new.knows.notes)
+PutsNoting z old log entries facts (Ok done) new left = IsPut z old log entries new left × AppendsOnce log entries left × ((fact : Fact) → IsIn fact facts → IsIn fact new.knows.notes)
 PutsNoting z old log entries facts (Err why) new left = Puts z old log entries (Err why) new left
 
 -- the number published now, or why the record is not there

@@ -20,7 +20,7 @@ use Rattle.wp_parts.specs.Log.{LogState, IsLog}
 use Rattle.wp_parts.specs.Parts.{log_first}
 use Rattle.wp_read.specs.Registers.{unregistering}
 use Rattle.wp_records.specs.Writing.{FoundLog}
-use Rattle.wp_records.specs.Records.{numbers_behind, IsAboutNone, failing, FailsAppend, IsUncalled}
+use Rattle.wp_records.specs.Records.{numbers_behind, IsAboutNone, failing, AppendsOnce, FailsAppend, IsUncalled}
 use Rattle.wp_shared.specs.Calls.{IsLoose, ContinuesWith, Continues, with_events}
 use Rattle.wp_shared.specs.Devices.{CalledNoDevice, LeftMarks}
 use Rattle.wp_shared.specs.Limits.{limit_at}
@@ -32,21 +32,6 @@ use Rattle.wp_open_txns.specs.Turns.{IsApartFrom}
 use Rattle.wp_open_txns.specs.Txn.{OpenState, PreparedState, has_key, HasOpen, HasPrepared}
 
 -- ---- any entries
-
--- The seat put the entries behind this history, in which it found the log running; they end what it has seen, and their numbers
--- are its own, within the limit that the store has while the log is in the segment that the last edit named then. It was the first
--- participant as it found the log, and is the second one but for what it put. It has these facts still, but for those about the
--- transaction of one of the entries, or that a key is unchanged which one changes.
-pub record HasPut {D : Type 0} (Stays : Fact → Type 0) (z : SharedState D) (old new : SeatState) (found after : Participant) (history entries : List Entry) : Type 0 where
-  pub grown : StartsWith history old.knows.participant.seen
-  pub found_log : FoundLog z old found history false
-  pub seen : new.knows.participant.seen ≡ history ++ entries
-  pub within : length (history ++ entries) ≤ limit_at z found_log.world.installed.last.segment.base
-  pub goes_on : ContinuesWith (λ fact. Stays fact × IsAboutNone history entries fact) z old new (record after { own = after.own ++ numbers_behind (length history) entries })
-
--- ... behind some history
-abbrev pub HasPutThese : {D : Type 0} → (Fact → Type 0) → SharedState D → SeatState → SeatState → Participant → Participant → List Entry → Type 0
-HasPutThese Stays z old new found after entries = (history : List Entry) × HasPut Stays z old new found after history entries
 
 -- The store's log on its device, as the call found it, in this state, and as it left it: between the two this came about. Both are
 -- what the value behind the turn may be: the device has what the state says that the log spells, no fault since the opening was
@@ -62,24 +47,46 @@ pub record HadLog {D : Type 0} (z : SharedState D) (found : WriteState) (CameAbo
   pub still_log : IsLog left
   pub came_about : CameAbout before left
 
--- ... the append of these entries failed
+-- The seat put the entries behind this history, in which it found the log running; they end what it has seen, and their numbers
+-- are its own, within the limit that the store has while the log is in the segment that the last edit named then. It was the first
+-- participant as it found the log, and is the second one but for what it put. It has these facts still, but for those about the
+-- transaction of one of the entries, or that a key is unchanged which one changes. The entries are one record of the log: its append is
+-- the one that the log has more.
+pub record HasPut {D : Type 0} (Stays : Fact → Type 0) (z : SharedState D) (old new : SeatState) (found after : Participant) (history entries : List Entry) : Type 0 where
+  pub grown : StartsWith history old.knows.participant.seen
+  pub found_log : FoundLog z old found history false
+  pub seen : new.knows.participant.seen ≡ history ++ entries
+  pub within : length (history ++ entries) ≤ limit_at z found_log.world.installed.last.segment.base
+  pub appended : HadLog z found_log.world.writes (λ before left. AppendsOnce before entries left)
+  pub goes_on : ContinuesWith (λ fact. Stays fact × IsAboutNone history entries fact) z old new (record after { own = after.own ++ numbers_behind (length history) entries })
+
+-- ... behind some history
+abbrev pub HasPutThese : {D : Type 0} → (Fact → Type 0) → SharedState D → SeatState → SeatState → Participant → Participant → List Entry → Type 0
+HasPutThese Stays z old new found after entries = (history : List Entry) × HasPut Stays z old new found after history entries
+
+-- the append of these entries failed
 abbrev pub HadFault : {D : Type 0} → SharedState D → WriteState → List Entry → Type 0
 HadFault z found entries = HadLog z found (λ before left. FailsAppend before entries left)
 
 -- Why a call put no entries there, of which it needs so many, and asks for such. It was the first participant as it found the log,
--- and is the second one but for what it remembers of that. What a log that failed was asked to take might have come next.
-abbrev pub Refuses : {D : Type 0} → SharedState D → SeatState → SeatState → ℕ → (List Entry → Type 0) → Participant → Participant → TxnError → Type 0
-Refuses z old new needed Asks found after Memory = Continues z old new after
-Refuses z old new needed Asks found after (Stopped n) =
-    (n ≡ length new.knows.participant.seen) × FoundLog z old found new.knows.participant.seen true × Continues z old new (with_events (stopped n ∷ []) after)
-Refuses z old new needed Asks found after (NumbersFull published limit) =
+-- and is the second one but for what it remembers of that; of what it noted it has these facts still. What a log that failed was asked to take
+-- might have come next.
+abbrev pub RefusesWith : {D : Type 0} → (Fact → Type 0) → SharedState D → SeatState → SeatState → ℕ → (List Entry → Type 0) → Participant → Participant → TxnError → Type 0
+RefusesWith Stays z old new needed Asks found after Memory = ContinuesWith Stays z old new after
+RefusesWith Stays z old new needed Asks found after (Stopped n) =
+    (n ≡ length new.knows.participant.seen) × FoundLog z old found new.knows.participant.seen true × ContinuesWith Stays z old new (with_events (stopped n ∷ []) after)
+RefusesWith Stays z old new needed Asks found after (NumbersFull published limit) =
     (published ≡ length new.knows.participant.seen) × (limit < published + needed)
     × (found_log : FoundLog z old found new.knows.participant.seen false) × (limit ≡ limit_at z found_log.world.installed.last.segment.base)
-    × Continues z old new (with_events (based_at published found_log.world.installed.last.segment.base ∷ []) after)
-Refuses z old new needed Asks found after LogFault =
+    × ContinuesWith Stays z old new (with_events (based_at published found_log.world.installed.last.segment.base ∷ []) after)
+RefusesWith Stays z old new needed Asks found after LogFault =
     (found_log : FoundLog z old found new.knows.participant.seen false) × (length new.knows.participant.seen + needed ≤ limit_at z found_log.world.installed.last.segment.base)
-    × ((entries : List Entry) × Asks entries × Continues z old new (failing entries after) × IsLegal (new.knows.participant.seen ++ entries) × HadFault z found_log.world.writes entries)
-Refuses z old new needed Asks found after other = ⊥
+    × ((entries : List Entry) × Asks entries × ContinuesWith Stays z old new (failing entries after) × IsLegal (new.knows.participant.seen ++ entries) × HadFault z found_log.world.writes entries)
+RefusesWith Stays z old new needed Asks found after other = ⊥
+
+-- ... and has all that it noted without a turn
+abbrev pub Refuses : {D : Type 0} → SharedState D → SeatState → SeatState → ℕ → (List Entry → Type 0) → Participant → Participant → TxnError → Type 0
+Refuses z old new needed Asks found after why = RefusesWith IsLoose z old new needed Asks found after why
 
 -- ---- the log's device
 

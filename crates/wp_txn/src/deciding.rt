@@ -12,6 +12,7 @@ ghost use Rattle.wp_txn.specs.Writes.{RefusesBeforeLog, Commits, AsksCommit, Ref
 
 use crate::recording::{Noting, record};
 use std::alloc::Global;
+use std::slice;
 use std::sync::Wait;
 use wp_judge::fits;
 use wp_model::Seq;
@@ -63,13 +64,19 @@ pub fn commit<D: Disk + Drop, R: Wait>(
     ensures refused { IfErr result (λ r. RefusesPrepared store.now seat.old txn 1 AsksCommit r.txn r.why seat.new) }
     ensures before_log { IfErr result (λ r. RefusesBeforeLog store.now (participant_of seat.old) seat.old r.why seat.new) }
 {
-    let Ok(commit) = Record::commit(alloc, txn.number) else {
+    let Ok(commit) = Record::commit(alloc, txn.number()) else {
         return Err(Refused {
             txn,
             why: TxnError::Memory,
         });
     };
-    match record(store, rt, seat, commit, Noting::Unprepared(&txn.name)) {
+    match record(
+        store,
+        rt,
+        seat,
+        commit,
+        Noting::Unprepared(slice::from_ref(&txn)),
+    ) {
         Ok(number) => {
             end(store, rt, seat, txn, number);
             Ok(number)

@@ -5,7 +5,8 @@
 //! says what the seat's actor then has and remembers, and of a refusal also what the state held as it found that.
 //!
 //! `write` is one change, written at once: its key is locked for the call alone. `prepare` puts the changes of an open transaction into
-//! the log, and `commit` decides them; `commit_now` does both by one entry. `rollback` reads what their keys have, at a snapshot of its
+//! the log, and `commit` decides them; `commit_now` does both by one entry. `commit_all` decides a group by one record, where no two
+//! of its numbers have one place in the commit cache. `rollback` reads what their keys have, at a snapshot of its
 //! own, and puts that back, with the end of the prepare in the same record. Each takes the write turn for its record, finds the log
 //! running and room under the limit, and has the record made by `wp_records`. Behind the write turn the name and the keys of the
 //! transaction are free again, and a decided number leaves the prepared sets, where its pair fits a word.
@@ -19,6 +20,7 @@
 
 mod deciding;
 mod direct;
+mod groups;
 mod laws;
 mod preparing;
 mod recording;
@@ -27,6 +29,7 @@ mod undoing;
 
 pub use deciding::commit;
 pub use direct::write;
+pub use groups::commit_all;
 pub use laws::{behind_an_append_only_the_device_refuses, validated_keys_keep_their_values};
 pub use preparing::{commit_now, prepare};
 pub use undoing::rollback;

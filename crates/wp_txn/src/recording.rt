@@ -1,8 +1,11 @@
 //! A record of entries, from the taking of the write turn to its giving.
 ghost use Rattle.std.specs.Prelude.{◌≡◌, ◌+◌, ◌≤◌, ℕ, min, true, false, List, [], length, IfOk, IfErr};
+ghost use Rattle.std.specs.List.{AllByRecursion};
 ghost use Rattle.wp_model.specs.Batch.{is_batch};
 ghost use Rattle.wp_fields.specs.declared.format.Format.TheVariants.{Two};
 ghost use Rattle.wp_entry.specs.Record.{last_number};
+ghost use Rattle.wp_core.specs.Lists.{IsIn};
+ghost use Rattle.wp_core.specs.States.{writes};
 ghost use Rattle.wp_core.specs.Turns.{write_turn};
 ghost use Rattle.wp_commits.specs.Ways.{ways_of, AreApart};
 ghost use Rattle.wp_parts.specs.Log.{IsLog};
@@ -10,14 +13,14 @@ ghost use Rattle.wp_records.specs.Records.{MayPut};
 ghost use Rattle.wp_records.specs.Writing.{HoldsWrite};
 ghost use Rattle.wp_shared.specs.Seats.{IsFree, held_by, participant_of};
 ghost use Rattle.wp_shared.specs.Turns.{Given, history_in};
-ghost use Rattle.wp_txn.specs.Recording.{OpensLog, MayNote, MayRecord, notes_of, PutsNoting, Records, answer_of};
+ghost use Rattle.wp_txn.specs.Recording.{OpensLog, IsDecided, NotesMore, notes_of_each, MayNote, MayRecord, notes_of, PutsNoting, Records, answer_of};
 ghost use Rattle.wp_txn.specs.Writes.{Refuses, MayLeaveDevice};
 
 use crate::steps::{find_base, find_log_closed, note_undecided, note_unprepared};
 use std::sync::Wait;
 use wp_fields::Format;
 use wp_model::{Batch, Name, Seq};
-use wp_open_txns::TxnError;
+use wp_open_txns::{PreparedTxn, TxnError};
 use wp_outside::Disk;
 use wp_records::{Record, WriteError, put};
 use wp_shared::{Log, Seat, Shared};
@@ -28,8 +31,8 @@ pub(crate) enum Noting<'a> {
     Nothing,
     /// The number of the undecided prepare of this name.
     Undecided(&'a Name),
-    /// That no undecided prepare has this name.
-    Unprepared(&'a Name),
+    /// Of each of these, which the record decides, that no undecided prepare has its name.
+    Unprepared(&'a [PreparedTxn]),
 }
 
 /// The greatest number that an entry of a log in this version may get, where this is the limit.
@@ -94,6 +97,23 @@ fn close_log<D: Disk + Drop>(
     }
 }
 
+/// Notes of each of them, which are decided, that no undecided prepare has its name.
+fn note_decided<D: Disk + Drop>(
+    store: &Shared<D>,
+    seat: &mut Seat<D>,
+    log: &Log<D>,
+    txns: &[PreparedTxn],
+)
+    requires seat { (seat.old.table ≡ store.now.table) × (seat.old.knows.live ≡ true) }
+    requires held { IsIn (writes log.now.state) (held_by seat.old) }
+    requires decided { AllByRecursion (IsDecided seat.old (history_in log.now)) txns.now }
+    ensures { NotesMore seat.old (notes_of_each txns.now) seat.new }
+{
+    for txn in txns {
+        note_unprepared(store, seat, log, txn.name());
+    }
+}
+
 /// Puts the record into the history, and notes what is to be noted of it.
 fn put_noting<D: Disk + Drop, R: Wait>(
     store: &Shared<D>,
@@ -118,8 +138,8 @@ fn put_noting<D: Disk + Drop, R: Wait>(
             note_undecided(store, seat, log, name, log.published());
             Ok(())
         }
-        Noting::Unprepared(name) => {
-            note_unprepared(store, seat, log, name);
+        Noting::Unprepared(txns) => {
+            note_decided(store, seat, log, txns);
             Ok(())
         }
     }

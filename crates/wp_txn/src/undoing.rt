@@ -9,6 +9,7 @@ ghost use Rattle.wp_txn.specs.Writes.{RefusesBehindRead, RollsBack, RefusesPrepa
 use crate::deciding::end;
 use crate::recording::{Noting, record, shows_batch};
 use std::alloc::{AllocError, Global};
+use std::slice;
 use std::sync::Wait;
 use wp_model::{Batch, Seq};
 use wp_open_txns::{PreparedTxn, Refused, TxnError};
@@ -51,21 +52,27 @@ pub fn rollback<D: Disk + Drop, R: Wait>(
     ensures refused { IfErr result (λ r. RefusesPrepared store.now seat.old txn 2 AsksRollback r.txn r.why seat.new) }
     ensures before_log { IfErr result (λ r. RefusesBehindRead store.now seat.old r.why seat.new) }
 {
-    let Ok(prior) = prior_now(store, rt, alloc, seat, &txn.batch) else {
+    let Ok(prior) = prior_now(store, rt, alloc, seat, txn.batch()) else {
         return Err(Refused {
             txn,
             why: TxnError::Memory,
         });
     };
     shows_batch(&prior);
-    let Ok(undo) = Record::roll_back(alloc, txn.number, &prior) else {
+    let Ok(undo) = Record::roll_back(alloc, txn.number(), &prior) else {
         return Err(Refused {
             txn,
             why: TxnError::Memory,
         });
     };
     held_keys_keep_their_values();
-    match record(store, rt, seat, undo, Noting::Unprepared(&txn.name)) {
+    match record(
+        store,
+        rt,
+        seat,
+        undo,
+        Noting::Unprepared(slice::from_ref(&txn)),
+    ) {
         Ok(number) => {
             end(store, rt, seat, txn, number);
             Ok(number)

@@ -50,7 +50,7 @@ free-requires-clause-has g c =
     let unpinned = subst (λ (y : OpenState). Continues z mid u (unregistering y.pin mid.knows.participant)) c.txn.view_is c.unpin.ensures.goes_on in
     let exact = subst (λ (y : OpenState). u.knows.participant ≡ unregistering y.pin mid.knows.participant) c.txn.view_is c.unpin.ensures.same in
     subst (λ (y : OpenState). HasLocked u y.name y.batch y.locked) (sym c.txn.view_is)
-    (locked_until z s s mid u u x.name x.pin (Write x.batch ∷ []) (λ m. []) n (continues_none z s c.requires.free) r unpinned exact x.batch x.locked (open_locked s x c.requires.open))
+    (locked_until z s s mid u u x.pin (Write x.batch ∷ []) (λ m. []) n (continues_none z s c.requires.free) r unpinned exact x.name x.batch x.locked (open_locked s x c.requires.open))
 
 pub free-requires-clause-noted : goal.free-requires-clause-noted
 free-requires-clause-noted g c =
@@ -67,7 +67,7 @@ returns-in-Ok-record-clause-ok g c =
     let unpinned = subst (λ (y : OpenState). Continues z mid u (unregistering y.pin mid.knows.participant)) c.txn.view_is c.unpin.ensures.goes_on in
     let exact = subst (λ (y : OpenState). u.knows.participant ≡ unregistering y.pin mid.knows.participant) c.txn.view_is c.unpin.ensures.same in
     let begins = continues_none z s c.requires.free in
-    ended z s s mid u c.free.new.seat x.name x.pin (Write x.batch ∷ []) (λ m. []) n begins r unpinned exact (AreUnchanged s x) (are_unchanged z s s mid (Write x.batch ∷ []) (λ m. []) n begins r x c.requires.open)
+    ended z s s mid u c.free.new.seat x.pin (Write x.batch ∷ []) (λ m. []) n begins r unpinned exact x.name (AreUnchanged s x) (are_unchanged z s s mid (Write x.batch ∷ []) (λ m. []) n begins r x c.requires.open)
     (subst (λ (y : OpenState). Frees z u c.free.new.seat y.name) c.txn.view_is c.free.ensures)
 
 pub returns-in-Err-clause-refused : goal.returns-in-Err-clause-refused
