@@ -4,6 +4,7 @@ pub mod Putting
 pub mod Logged
 pub mod Writes
 pub mod Decisions
+pub mod Settling
 pub mod TablesFound
 pub mod Flushing
 pub mod Retained

@@ -24,7 +24,7 @@ use Rattle.wp_core.specs.World.{Participant}
 use Rattle.wp_core.proofs.KeepsSeen.{shorter}
 use Rattle.wp_records.specs.Records.{numbers_behind}
 use Rattle.wp_read.specs.Registers.{without_last, unregistering}
-use Rattle.wp_shared.specs.Calls.{ContinuesWith}
+use Rattle.wp_shared.specs.Calls.{IsLoose, ContinuesWith}
 use Rattle.wp_shared.specs.Seats.{SharedState, SeatState}
 use Rattle.wp_open_txns.specs.declared.error.TxnError.{TxnError}
 use Rattle.wp_open_txns.specs.declared.error.TxnError.TheVariants.{Silent}
@@ -48,6 +48,7 @@ use Rattle.wp_answers.proofs.Putting.{one_answers, last_entry, last_within}
 use Rattle.wp_client.proofs.Fitting.{Fits, else_answers}
 use Rattle.wp_client.proofs.Clients.{having, holds_from}
 use Rattle.wp_client.proofs.GivenUp.{without_pin, gone}
+use Rattle.wp_client.proofs.Noting.{loose_unchanged}
 use Rattle.wp_client.proofs.Growing.{of_two, progress_still}
 use Rattle.wp_answers.proofs.Refused.{IsLogged, none_before, by_refusal, refused_answers, refused_holds, refused_memory}
 use Rattle.wp_client.proofs.Staying.{Repins, past_same, in_place, broke_off_after, has_now, holds_now}
@@ -214,11 +215,11 @@ module _ {D : Type 0} (z : SharedState D) (old new : SeatState) where
 -- ---- refusals
 
 module _ {D : Type 0} (z : SharedState D) (old new : SeatState) (why : TxnError) where
-  module _ (c : Command) (txn left : OpenState) (made : Entry) (snapshots : List LabelledSnapshot) (logged : IsLogged (having (Open (staged_of txn)) snapshots) c 1 (λ (entries : List Entry). entries ≡ made ∷ [])) (k : RefusesOpen z old txn made left why new) where
+  module _ (c : Command) (txn left : OpenState) (made : Entry) (snapshots : List LabelledSnapshot) (logged : IsLogged old.knows.participant.seen new.knows.participant.seen (having (Open (staged_of txn)) snapshots) c 1 (λ (entries : List Entry). entries ≡ made ∷ [])) (k : RefusesOpen z old txn made left why new) where
     pub open_refused_answers : (r : Reply) → refusal why ≡ Some r → Answers z old new (having (Open (staged_of txn)) snapshots) (having (Open (staged_of left)) snapshots) c r
     open_refused_answers r is =
         subst (λ (x : OpenState). Answers z old new (having (Open (staged_of txn)) snapshots) (having (Open (staged_of x)) snapshots) c r) (sym k.0)
-        (refused_answers z old new (having (Open (staged_of txn)) snapshots) c 1 (λ (entries : List Entry). entries ≡ made ∷ []) logged old.knows.participant old.knows.participant [] (λ event there. there) refl refl (sym (append-nil old.knows.participant.past)) (none_before (having (Open (staged_of txn)) snapshots) c old.knows.participant.client) why r is k.2)
+        (refused_answers z old new (having (Open (staged_of txn)) snapshots) c 1 (λ (entries : List Entry). entries ≡ made ∷ []) logged IsLoose (loose_unchanged (Open (staged_of txn))) old.knows.participant old.knows.participant [] (λ event there. there) refl refl (sym (append-nil old.knows.participant.past)) (none_before (having (Open (staged_of txn)) snapshots) c old.knows.participant.client) why r is k.2)
 
     pub open_refused_named : why ≢ Silent
     open_refused_named is = (subst (λ (w : TxnError). RefusesOpen z old txn made left w new) is k).2
@@ -230,11 +231,11 @@ module _ {D : Type 0} (z : SharedState D) (old new : SeatState) (why : TxnError)
   open_refused_holds txn left made k = subst (λ (x : OpenState). HoldsFrom z old new (held.Open txn) (held.Open x)) (sym k.0)
       (holds_from z old new (held.Open txn) (refused_holds z old new 1 (λ (entries : List Entry). entries ≡ made ∷ []) old.knows.participant old.knows.participant refl refl refl (past_same old.knows.participant.past) why k.2))
 
-  module _ (c : Command) (txn left : PreparedState) (needs : ℕ) (Asks : List Entry → PreparedState → List Entry → Type 0) (snapshots : List LabelledSnapshot) (logged : IsLogged (having (Prepared txn.number) snapshots) c needs (Asks new.knows.participant.seen txn)) (k : RefusesPrepared z old txn needs Asks left why new) where
+  module _ (c : Command) (txn left : PreparedState) (needs : ℕ) (Asks : List Entry → PreparedState → List Entry → Type 0) (snapshots : List LabelledSnapshot) (logged : IsLogged old.knows.participant.seen new.knows.participant.seen (having (Prepared txn.number) snapshots) c needs (Asks new.knows.participant.seen txn)) (k : RefusesPrepared z old txn needs Asks left why new) where
     pub prepared_refused_answers : (r : Reply) → refusal why ≡ Some r → Answers z old new (having (Prepared txn.number) snapshots) (having (Prepared left.number) snapshots) c r
     prepared_refused_answers r is =
         subst (λ (x : PreparedState). Answers z old new (having (Prepared txn.number) snapshots) (having (Prepared x.number) snapshots) c r) (sym k.0)
-        (refused_answers z old new (having (Prepared txn.number) snapshots) c needs (Asks new.knows.participant.seen txn) logged old.knows.participant old.knows.participant [] (λ event there. there) refl refl (sym (append-nil old.knows.participant.past)) (none_before (having (Prepared txn.number) snapshots) c old.knows.participant.client) why r is k.2)
+        (refused_answers z old new (having (Prepared txn.number) snapshots) c needs (Asks new.knows.participant.seen txn) logged IsLoose tt old.knows.participant old.knows.participant [] (λ event there. there) refl refl (sym (append-nil old.knows.participant.past)) (none_before (having (Prepared txn.number) snapshots) c old.knows.participant.client) why r is k.2)
 
     pub prepared_refused_named : why ≢ Silent
     prepared_refused_named is = (subst (λ (w : TxnError). RefusesPrepared z old txn needs Asks left w new) is k).2
@@ -254,7 +255,7 @@ module _ {D : Type 0} (z : SharedState D) (old new : SeatState) (why : TxnError)
   module _ (txn left : OpenState) where
     pub prepare_refused_due : RefusesOpen z old txn (entry.Prepare txn.name txn.batch) left why new → IsDue z old new (having (Open (staged_of txn)) snapshots) (having (Open (staged_of left)) snapshots) command.Prepare r
     prepare_refused_due k =
-        by_refusal z old new 1 (λ (entries : List Entry). entries ≡ entry.Prepare txn.name txn.batch ∷ []) finder finder (IsDue z old new (having (Open (staged_of txn)) snapshots) (having (Open (staged_of left)) snapshots) command.Prepare)
+        by_refusal IsLoose z old new 1 (λ (entries : List Entry). entries ≡ entry.Prepare txn.name txn.batch ∷ []) finder finder (IsDue z old new (having (Open (staged_of txn)) snapshots) (having (Open (staged_of left)) snapshots) command.Prepare)
         (λ published limit f. λ world stands only first is_first store so locks. open_full_alone z first old new only store so (world, stands) snapshots txn left command.Prepare (reply.Prepared (next store.history)) (entry.Prepare txn.name txn.batch) (prepare_asks z first old new only store so (world, stands) snapshots txn) published limit (k.0, k.1, f))
         (λ n f. λ world stands only first is_first store so locks. open_stopped_alone z first old new only store so (world, stands) snapshots txn left command.Prepare (reply.Prepared (next store.history)) (entry.Prepare txn.name txn.batch) (prepare_asks z first old new only store so (world, stands) snapshots txn) n (k.0, k.1, f))
         (λ f. λ world stands only first is_first store so locks. open_fault_alone z first old new only store so (world, stands) snapshots txn left command.Prepare (reply.Prepared (next store.history)) (entry.Prepare txn.name txn.batch) (prepare_asks z first old new only store so (world, stands) snapshots txn) (k.0, k.1, f))
@@ -262,7 +263,7 @@ module _ {D : Type 0} (z : SharedState D) (old new : SeatState) (why : TxnError)
 
     pub commit_now_refused_due : RefusesOpen z old txn (entry.Write txn.batch) left why new → IsDue z old new (having (Open (staged_of txn)) snapshots) (having (Open (staged_of left)) snapshots) command.Commit r
     commit_now_refused_due k =
-        by_refusal z old new 1 (λ (entries : List Entry). entries ≡ entry.Write txn.batch ∷ []) finder finder (IsDue z old new (having (Open (staged_of txn)) snapshots) (having (Open (staged_of left)) snapshots) command.Commit)
+        by_refusal IsLoose z old new 1 (λ (entries : List Entry). entries ≡ entry.Write txn.batch ∷ []) finder finder (IsDue z old new (having (Open (staged_of txn)) snapshots) (having (Open (staged_of left)) snapshots) command.Commit)
         (λ published limit f. λ world stands only first is_first store so locks. open_full_alone z first old new only store so (world, stands) snapshots txn left command.Commit (reply.Committed (next store.history)) (entry.Write txn.batch) (commit_now_asks z first old new only store so (world, stands) snapshots txn) published limit (k.0, k.1, f))
         (λ n f. λ world stands only first is_first store so locks. open_stopped_alone z first old new only store so (world, stands) snapshots txn left command.Commit (reply.Committed (next store.history)) (entry.Write txn.batch) (commit_now_asks z first old new only store so (world, stands) snapshots txn) n (k.0, k.1, f))
         (λ f. λ world stands only first is_first store so locks. open_fault_alone z first old new only store so (world, stands) snapshots txn left command.Commit (reply.Committed (next store.history)) (entry.Write txn.batch) (commit_now_asks z first old new only store so (world, stands) snapshots txn) (k.0, k.1, f))
@@ -271,7 +272,7 @@ module _ {D : Type 0} (z : SharedState D) (old new : SeatState) (why : TxnError)
   module _ (txn left : PreparedState) where
     pub commit_refused_due : RefusesPrepared z old txn 1 AsksCommit left why new → IsDue z old new (having (Prepared txn.number) snapshots) (having (Prepared left.number) snapshots) command.Commit r
     commit_refused_due k =
-        by_refusal z old new 1 (AsksCommit new.knows.participant.seen txn) finder finder (IsDue z old new (having (Prepared txn.number) snapshots) (having (Prepared left.number) snapshots) command.Commit)
+        by_refusal IsLoose z old new 1 (AsksCommit new.knows.participant.seen txn) finder finder (IsDue z old new (having (Prepared txn.number) snapshots) (having (Prepared left.number) snapshots) command.Commit)
         (λ published limit f. λ world stands only first is_first store so locks. commit_full_alone z first old new only store so (world, stands) snapshots txn left published limit (k.0, k.1, f))
         (λ n f. λ world stands only first is_first store so locks. commit_stopped_alone z first old new only store so (world, stands) snapshots txn left n (k.0, k.1, f))
         (λ f. λ world stands only first is_first store so locks. commit_fault_alone z first old new only store so (world, stands) snapshots txn left (k.0, k.1, f))
@@ -279,7 +280,7 @@ module _ {D : Type 0} (z : SharedState D) (old new : SeatState) (why : TxnError)
 
     pub rollback_refused_due : HasPrepared old txn → RefusesPrepared z old txn 2 AsksRollback left why new → IsDue z old new (having (Prepared txn.number) snapshots) (having (Prepared left.number) snapshots) command.Rollback r
     rollback_refused_due has k =
-        by_refusal z old new 2 (AsksRollback new.knows.participant.seen txn) finder finder (IsDue z old new (having (Prepared txn.number) snapshots) (having (Prepared left.number) snapshots) command.Rollback)
+        by_refusal IsLoose z old new 2 (AsksRollback new.knows.participant.seen txn) finder finder (IsDue z old new (having (Prepared txn.number) snapshots) (having (Prepared left.number) snapshots) command.Rollback)
         (λ published limit f. λ world stands only first is_first store so locks. rollback_full_alone z first old new only store so (world, stands) snapshots txn left has published limit (k.0, k.1, f))
         (λ n f. λ world stands only first is_first store so locks. rollback_stopped_alone z first old new only store so (world, stands) snapshots txn left has n (k.0, k.1, f))
         (λ f. λ world stands only first is_first store so locks. rollback_fault_alone z first old new only store so (world, stands) snapshots txn left has (k.0, k.1, f))
@@ -287,14 +288,14 @@ module _ {D : Type 0} (z : SharedState D) (old new : SeatState) (why : TxnError)
 
 -- what each command asks the log for
 module _ (snapshots : List LabelledSnapshot) where
-  pub prepare_logged : (txn : OpenState) → IsLogged (having (Open (staged_of txn)) snapshots) command.Prepare 1 (λ (entries : List Entry). entries ≡ entry.Prepare txn.name txn.batch ∷ [])
-  prepare_logged txn = record { free = refl; some = omega arith; needs_is = refl; asks = λ entries k. k; fresh = λ r. refl; comes = λ r of_log before. refl; labels = λ before r. refl }
+  pub prepare_logged : {had seen : List Entry} (txn : OpenState) → IsLogged had seen (having (Open (staged_of txn)) snapshots) command.Prepare 1 (λ (entries : List Entry). entries ≡ entry.Prepare txn.name txn.batch ∷ [])
+  prepare_logged txn = record { free = refl; some = omega arith; needs_is = refl; asks = λ entries k history last starts low. k; fresh = λ r. refl; comes = λ r of_log before. refl; labels = λ before r. refl }
 
-  pub commit_now_logged : (txn : OpenState) → IsLogged (having (Open (staged_of txn)) snapshots) command.Commit 1 (λ (entries : List Entry). entries ≡ entry.Write txn.batch ∷ [])
-  commit_now_logged txn = record { free = refl; some = omega arith; needs_is = refl; asks = λ entries k. k; fresh = λ r. refl; comes = λ r of_log before. refl; labels = λ before r. refl }
+  pub commit_now_logged : {had seen : List Entry} (txn : OpenState) → IsLogged had seen (having (Open (staged_of txn)) snapshots) command.Commit 1 (λ (entries : List Entry). entries ≡ entry.Write txn.batch ∷ [])
+  commit_now_logged txn = record { free = refl; some = omega arith; needs_is = refl; asks = λ entries k history last starts low. k; fresh = λ r. refl; comes = λ r of_log before. refl; labels = λ before r. refl }
 
-  pub commit_logged : (history : List Entry) (txn : PreparedState) → IsLogged (having (Prepared txn.number) snapshots) command.Commit 1 (AsksCommit history txn)
-  commit_logged history txn = record { free = refl; some = omega arith; needs_is = refl; asks = λ entries k. k; fresh = λ r. refl; comes = λ r of_log before. refl; labels = λ before r. refl }
+  pub commit_logged : {had seen : List Entry} (history : List Entry) (txn : PreparedState) → IsLogged had seen (having (Prepared txn.number) snapshots) command.Commit 1 (AsksCommit history txn)
+  commit_logged history txn = record { free = refl; some = omega arith; needs_is = refl; asks = λ entries k history last starts low. k; fresh = λ r. refl; comes = λ r of_log before. refl; labels = λ before r. refl }
 
-  pub rollback_logged : (history : List Entry) (txn : PreparedState) → IsLogged (having (Prepared txn.number) snapshots) command.Rollback 2 (AsksRollback history txn)
-  rollback_logged history txn = record { free = refl; some = omega arith; needs_is = refl; asks = λ entries k. (prior history txn.batch, k); fresh = λ r. refl; comes = λ r of_log before. refl; labels = λ before r. refl }
+  pub rollback_logged : {had seen : List Entry} (history : List Entry) (txn : PreparedState) → IsLogged had seen (having (Prepared txn.number) snapshots) command.Rollback 2 (AsksRollback history txn)
+  rollback_logged history txn = record { free = refl; some = omega arith; needs_is = refl; asks = λ entries k h last starts low. (prior history txn.batch, k); fresh = λ r. refl; comes = λ r of_log before. refl; labels = λ before r. refl }

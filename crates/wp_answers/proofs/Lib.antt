@@ -4,6 +4,9 @@ pub mod Risen
 pub mod Refused
 pub mod Writes
 pub mod Decides
+pub mod Taking
+pub mod Settles
+pub mod Settled
 pub mod AtOnce
 pub mod Refusals
 pub mod Maintaining

@@ -10,21 +10,22 @@ use Rattle.wp_text.specs.declared.reply.Reply.TheVariants as reply
 use Rattle.wp_core.specs.Lists.{IsIn, one_if}
 use Rattle.wp_core.specs.Sound.Pasts.{closes_log, due_after}
 use Rattle.wp_core.specs.Sound.Pasts as pasts
-use Rattle.wp_core.specs.Views.{Event, log_failed, stopped, based_at}
+use Rattle.wp_core.specs.Sound.Actors.{StartsWith}
+use Rattle.wp_core.specs.Views.{Event, Fact, log_failed, stopped, based_at}
 use Rattle.wp_core.specs.World.{Participant}
 use Rattle.wp_core.proofs.KeepsSeen.{shorter}
 use Rattle.wp_core.proofs.PastsGrow.{in_last, in_either, total_more}
 use Rattle.wp_model.proofs.Tests.{same_some}
 use Rattle.wp_rule.proofs.Knows.{one_was_first}
 use Rattle.wp_rule.specs.Shows.{WasLast}
-use Rattle.wp_shared.specs.Calls.{Continues, with_events}
+use Rattle.wp_shared.specs.Calls.{ContinuesWith, Continues, with_events}
 use Rattle.wp_parts.specs.Parts.{content}
 use Rattle.wp_shared.specs.Limits.{limit_at}
 use Rattle.wp_shared.proofs.Limits.{limit_opened, limit_renewed}
 use Rattle.wp_shared.specs.Seats.{SharedState, SeatState, place_at}
 use Rattle.wp_open_txns.specs.declared.error.TxnError.{TxnError}
 use Rattle.wp_open_txns.specs.declared.error.TxnError.TheVariants.{Memory, NumbersFull, LogFault, Stopped}
-use Rattle.wp_txn.specs.Writes.{Refuses}
+use Rattle.wp_txn.specs.Writes.{RefusesWith, Refuses}
 use Rattle.wp_replies.specs.Client.{Client}
 use Rattle.wp_replies.specs.Kind.{number_in, fresh_in, last_after}
 use Rattle.wp_replies.specs.Progress.{Progress, heard_after}
@@ -38,7 +39,7 @@ use Rattle.wp_client.specs.Replies.{refusal}
 use Rattle.wp_client.proofs.Alone.Published.{no_device_fault}
 use Rattle.wp_client.proofs.Fitting.{else_answers}
 use Rattle.wp_client.proofs.Growing.{InstallNothing, due_still, last_still}
-use Rattle.wp_client.proofs.Noting.{KeepsNoted, ComesNone, noted_still}
+use Rattle.wp_client.proofs.Noting.{KeepsNoted, ComesNone, KeepsUnchanged, noted_with}
 use Rattle.wp_answers.proofs.Risen.{base_within, base_there, base_between}
 use Rattle.wp_client.proofs.Staying.{KeepsPast, past_more, holds_still}
 
@@ -49,13 +50,13 @@ IsOfLog reply.FaultLog = Unit {0}
 IsOfLog (reply.Stopped n) = Unit {0}
 IsOfLog other = ⊥
 
--- The command asks the log for so many entries, and such, which the client's own state does not refuse. Its replies have nothing
--- of labels, and no key comes with one that the log refuses it by.
-pub record IsLogged (client : Client) (c : Command) (needs : ℕ) (Asks : List Entry → Type 0) : Type 0 where
+-- The command asks the log for so many entries, and such, as the client had seen the one of these and its seat has seen the other by then;
+-- the client's own state does not refuse it. Its replies have nothing of labels, and no key comes with one that the log refuses it by.
+pub record IsLogged (had seen : List Entry) (client : Client) (c : Command) (needs : ℕ) (Asks : List Entry → Type 0) : Type 0 where
   pub free : refusal_of client c ≡ None
   pub some : 1 ≤ needs
   pub needs_is : needed client.txn c ≡ needs
-  pub asks : (entries : List Entry) → Asks entries → AsksFor client.txn c entries
+  pub asks : (entries : List Entry) → Asks entries → (history : List Entry) (last : ℕ) → StartsWith history seen → last ≤ length had → AsksFor history last client.txn c entries
   pub fresh : (r : Reply) → fresh_in c r ≡ number_in r
   pub comes : (r : Reply) → IsOfLog r → ComesNone c r
   pub labels : (before : List (List ℕ)) (r : Reply) → heard_after before c r ≡ before
@@ -73,11 +74,11 @@ pub none_before : (client : Client) (c : Command) (name : List ℕ) → ComesBef
 none_before client c name = record { log_failed = refl; tables_failed = refl; none_found = refl; quiet = λ due. refl; explained = λ r of_log event there. absurd there }
 
 -- What is so of a refusal of the log, where it is so of the three that have a reply.
-module _ {D : Type 0} (z : SharedState D) (old new : SeatState) (needs : ℕ) (Asks : List Entry → Type 0) (found after : Participant) (P : Reply → Type 0)
-    (full : (published limit : ℕ) → Refuses z old new needs Asks found after (NumbersFull published limit) → P (reply.Full published limit))
-    (halted : (n : ℕ) → Refuses z old new needs Asks found after (Stopped n) → P (reply.Stopped n))
-    (failed : Refuses z old new needs Asks found after LogFault → P reply.FaultLog) where
-  pub by_refusal : (why : TxnError) (r : Reply) → refusal why ≡ Some r → Refuses z old new needs Asks found after why → P r
+module _ {D : Type 0} (Stays : Fact → Type 0) (z : SharedState D) (old new : SeatState) (needs : ℕ) (Asks : List Entry → Type 0) (found after : Participant) (P : Reply → Type 0)
+    (full : (published limit : ℕ) → RefusesWith Stays z old new needs Asks found after (NumbersFull published limit) → P (reply.Full published limit))
+    (halted : (n : ℕ) → RefusesWith Stays z old new needs Asks found after (Stopped n) → P (reply.Stopped n))
+    (failed : RefusesWith Stays z old new needs Asks found after LogFault → P reply.FaultLog) where
+  pub by_refusal : (why : TxnError) (r : Reply) → refusal why ≡ Some r → RefusesWith Stays z old new needs Asks found after why → P r
   by_refusal (NumbersFull published limit) r is f = subst P (same_some (reply.Full published limit) r is) (full published limit f)
   by_refusal (Stopped n) r is f = subst P (same_some (reply.Stopped n) r is) (halted n f)
   by_refusal LogFault r is f = subst P (same_some reply.FaultLog r is) (failed f)
@@ -102,12 +103,12 @@ module _ (front : List Event) (last : Event) where
   quiet_more : InstallNothing front → ((due : ℕ) → due_after due last ≡ due) → InstallNothing (front ++ last ∷ [])
   quiet_more quiet still due = due_still due front (last ∷ []) still ∙ quiet due
 
-module _ {D : Type 0} (z : SharedState D) (old new : SeatState) (client : Client) (c : Command) (needs : ℕ) (Asks : List Entry → Type 0) (logged : IsLogged client c needs Asks) where
+module _ {D : Type 0} (z : SharedState D) (old new : SeatState) (client : Client) (c : Command) (needs : ℕ) (Asks : List Entry → Type 0) (logged : IsLogged old.knows.participant.seen new.knows.participant.seen client c needs Asks) (Stays : Fact → Type 0) (keeps : KeepsUnchanged Stays client.txn) where
   abbrev it : Participant
   it = old.knows.participant
 
   -- a fresh number that is the length of what was seen
-  fresh_number : (first : InstalledEdit) (before : Progress) (e : Evidence) (n : ℕ) (after : Participant) → Continues z old new after → n ≡ length new.knows.participant.seen → IsProgress first old client.txn before → Agrees e z new.knows.participant → IsFresh e.history before.last n
+  fresh_number : (first : InstalledEdit) (before : Progress) (e : Evidence) (n : ℕ) (after : Participant) → ContinuesWith Stays z old new after → n ≡ length new.knows.participant.seen → IsProgress first old client.txn before → Agrees e z new.knows.participant → IsFresh e.history before.last n
   fresh_number first before e n after goes is k agrees =
       let low = last_still first old client.txn new.knows.participant before goes.seen k in let high = shorter e.history new.knows.participant.seen agrees.seen in (omega (arith, is, low), omega (arith, is, high))
 
@@ -116,8 +117,8 @@ module _ {D : Type 0} (z : SharedState D) (old new : SeatState) (client : Client
   same_last r none before low = let is : last_after before c r ≡ before = ap (λ (o : Option ℕ). unwrap_or o before) (logged.fresh r ∙ none) in omega (arith, is, low)
 
   -- what is noted of the keys stays
-  still_noted : {after : Participant} (r : Reply) → IsOfLog r → number_in r ≡ None → Continues z old new after → KeepsNoted old new client.txn client.txn c r
-  still_noted {after} r of_log none goes = noted_still z old new after goes client.txn c r (logged.comes r of_log) (subst (λ (o : Option ℕ). IfSome o (λ n. length it.seen ≤ n)) (sym (logged.fresh r ∙ none)) tt)
+  still_noted : {after : Participant} (r : Reply) → IsOfLog r → number_in r ≡ None → ContinuesWith Stays z old new after → KeepsNoted old new client.txn client.txn c r
+  still_noted {after} r of_log none goes = noted_with Stays z old new after goes client.txn keeps c r (logged.comes r of_log) (subst (λ (o : Option ℕ). IfSome o (λ n. length it.seen ≤ n)) (sym (logged.fresh r ∙ none)) tt)
 
   -- the row of the reply has the last word
   by_condition : (e : Evidence) (before : Progress) (r : Reply) → Condition e before client 0 c r → Allows e before client 0 c r
@@ -129,7 +130,7 @@ module _ {D : Type 0} (z : SharedState D) (old new : SeatState) (client : Client
     past_with last = ap (λ (es : List Event). es ++ last ∷ []) past ∙ append_assoc it.past front (last ∷ [])
 
     -- the base that the log was found with
-    abbrev base_of : (published limit : ℕ) → Refuses z old new needs Asks found after (NumbersFull published limit) → ℕ
+    abbrev base_of : (published limit : ℕ) → RefusesWith Stays z old new needs Asks found after (NumbersFull published limit) → ℕ
     base_of published limit f = f.2.world.installed.last.segment.base
 
     -- the limit is that of a log with this base, which is no lower than the one that the store was opened with
@@ -146,7 +147,7 @@ module _ {D : Type 0} (z : SharedState D) (old new : SeatState) (client : Client
               ap (limit_at z) is ∙ (limit_opened z first.segment.base was ∙ (ap (λ (l : Limits). l.opened) (sym agrees.limits) ∙ sym (ap (λ (b : Bool). if b then e.limits.opened else e.limits.renewed) same)))
         ]
 
-    is_limit : (first : InstalledEdit) → WasLast content z.first first → (before : Progress) → IsProgress first old client.txn before → (e : Evidence) (published limit : ℕ) → Refuses z old new needs Asks found after (NumbersFull published limit) → Agrees e z new.knows.participant → IsLimit e before published limit
+    is_limit : (first : InstalledEdit) → WasLast content z.first first → (before : Progress) → IsProgress first old client.txn before → (e : Evidence) (published limit : ℕ) → RefusesWith Stays z old new needs Asks found after (NumbersFull published limit) → Agrees e z new.knows.participant → IsLimit e before published limit
     is_limit first is_first before p e published limit f agrees =
         let w = f.2.world in let base = base_of published limit f in
         let known = base_between first w f.2.there.reached (place_at z old.by).by f.2.actor f.2.there.there (one_was_first content z.first w.first_edit first f.2.there.first_edit is_first) before.base
@@ -155,7 +156,7 @@ module _ {D : Type 0} (z : SharedState D) (old new : SeatState) (client : Client
         let within : base ≤ published = (let high = base_within w f.2.there.reached in let all = ap (λ (h : List Entry). length h) f.2.history_is in let is = f.0 in omega (arith, high, all, is)) in
         (base, (told.0, known.1, within, told.1), f.3 ∙ limit_is first is_first e agrees base (omega (arith, known.0, known.1)))
 
-    full_answers : (published limit : ℕ) → Refuses z old new needs Asks found after (NumbersFull published limit) → Answers z old new client client c (reply.Full published limit)
+    full_answers : (published limit : ℕ) → RefusesWith Stays z old new needs Asks found after (NumbersFull published limit) → Answers z old new client client c (reply.Full published limit)
     full_answers published limit f =
         let last : Event = based_at published (base_of published limit f) in
         else_answers z old new _ (with_events (last ∷ []) after) (front ++ last ∷ []) client client c (reply.Full published limit) 0 f.4 same_client own (past_with last)
@@ -179,7 +180,7 @@ module _ {D : Type 0} (z : SharedState D) (old new : SeatState) (client : Client
           (let n = logged.needs_is in let low = f.1 in omega (arith, n, low)),
         ))
 
-    stopped_answers : (n : ℕ) → Refuses z old new needs Asks found after (Stopped n) → Answers z old new client client c (reply.Stopped n)
+    stopped_answers : (n : ℕ) → RefusesWith Stays z old new needs Asks found after (Stopped n) → Answers z old new client client c (reply.Stopped n)
     stopped_answers n f =
         else_answers z old new _ (with_events (stopped n ∷ []) after) (front ++ stopped n ∷ []) client client c (reply.Stopped n) 0 f.2 same_client own (past_with (stopped n))
         (record {
@@ -201,7 +202,7 @@ module _ {D : Type 0} (z : SharedState D) (old new : SeatState) (client : Client
           agrees.past (stopped n) (subst (IsIn (stopped n)) (sym (ap (λ (q : Participant). q.past) f.2.participant)) (in_last (stopped n) after.past)),
         ))
 
-    failed_answers : Refuses z old new needs Asks found after LogFault → Answers z old new client client c reply.FaultLog
+    failed_answers : RefusesWith Stays z old new needs Asks found after LogFault → Answers z old new client client c reply.FaultLog
     failed_answers f = let entries = f.2.0 in let goes = f.2.2 in
         else_answers z old new _ (with_events (log_failed entries ∷ []) after) (front ++ log_failed entries ∷ []) client client c reply.FaultLog 0 goes same_client own (past_with (log_failed entries))
         (record {
@@ -218,13 +219,13 @@ module _ {D : Type 0} (z : SharedState D) (old new : SeatState) (client : Client
         })
         refl (still_noted reply.FaultLog tt refl goes) (same_last reply.FaultLog refl)
         (λ first is_first before p e agrees. by_condition e before reply.FaultLog (
-          subst (AsksFor client.txn c) (sym (agrees.past (log_failed entries) (subst (IsIn (log_failed entries)) (sym (ap (λ (q : Participant). q.past) goes.participant)) (in_last (log_failed entries) after.past))).0) (logged.asks entries f.2.1),
+          subst (AsksFor e.history before.last client.txn c) (sym (agrees.past (log_failed entries) (subst (IsIn (log_failed entries)) (sym (ap (λ (q : Participant). q.past) goes.participant)) (in_last (log_failed entries) after.past))).0) (logged.asks entries f.2.1 e.history before.last agrees.seen p.last),
           needs_no_renewal e client.txn c (let n = logged.needs_is in let some = logged.some in omega (arith, n, some)),
         ))
 
     -- each refusal of the log, with its reply
-    pub refused_answers : (why : TxnError) (r : Reply) → refusal why ≡ Some r → Refuses z old new needs Asks found after why → Answers z old new client client c r
-    refused_answers = by_refusal z old new needs Asks found after (Answers z old new client client c) full_answers stopped_answers failed_answers
+    pub refused_answers : (why : TxnError) (r : Reply) → refusal why ≡ Some r → RefusesWith Stays z old new needs Asks found after why → Answers z old new client client c r
+    refused_answers = by_refusal Stays z old new needs Asks found after (Answers z old new client client c) full_answers stopped_answers failed_answers
 
 -- ---- what the seat has then
 

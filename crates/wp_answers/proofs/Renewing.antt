@@ -167,7 +167,7 @@ module _ {D : Type 0} (z : SharedState D) (old new : SeatState) where
           explained = of_two (IsExplained it.client client.txn command.Renew (Some reply.FaultLog)) found fault tt tt;
         })
         refl tt (λ before low. low)
-        (λ first is_first before p e agrees. let known = known_of z old new events k.goes_on e agrees fault (inr (inl refl)) in (asks_none client.txn e.failed.entries known.0, known.1 refl))
+        (λ first is_first before p e agrees. let known = known_of z old new events k.goes_on e agrees fault (inr (inl refl)) in (asks_none e.history before.last client.txn e.failed.entries known.0, known.1 refl))
 
     pub renewed_answers : (done : Renewed) → Renews z old (Ok done) new → IsAnswered z old new client client command.Renew (reply.Renewed done.at done.carried)
     renewed_answers done k = (renewed_beside done k, λ world stands only first is_first store so locks. renewed_alone z first old new only store so (world, stands) is_first client done k)

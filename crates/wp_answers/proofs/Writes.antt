@@ -17,7 +17,7 @@ use Rattle.wp_core.specs.World.{Participant}
 use Rattle.wp_core.proofs.PastsGrow.{in_front, in_last}
 use Rattle.wp_model.proofs.Tests.{same_some}
 use Rattle.wp_rule.specs.Accounts.{account_of}
-use Rattle.wp_shared.specs.Calls.{Continues, with_events}
+use Rattle.wp_shared.specs.Calls.{IsLoose, Continues, with_events}
 use Rattle.wp_shared.specs.Seats.{SharedState, SeatState}
 use Rattle.wp_open_txns.specs.declared.error.TxnError.{TxnError}
 use Rattle.wp_open_txns.specs.declared.error.TxnError.TheVariants.{Memory, Busy, NumbersFull, LogFault, Stopped}
@@ -102,9 +102,9 @@ none_comes (change.Del key) (reply.Stopped n) k = λ before. refl
 none_comes (change.Del key) other k = absurd k
 
 -- what it asks the log for
-writes_logged : (c : Change) (snapshots : List LabelledSnapshot) → IsLogged (having Idle snapshots) (asking c) 1 (λ (entries : List Entry). entries ≡ Write (c ∷ []) ∷ [])
-writes_logged (change.Put key value) snapshots = record { free = refl; some = omega arith; needs_is = refl; asks = λ entries k. k; fresh = λ r. refl; comes = none_comes (change.Put key value); labels = λ before r. refl }
-writes_logged (change.Del key) snapshots = record { free = refl; some = omega arith; needs_is = refl; asks = λ entries k. k; fresh = λ r. refl; comes = none_comes (change.Del key); labels = λ before r. refl }
+writes_logged : {had seen : List Entry} (c : Change) (snapshots : List LabelledSnapshot) → IsLogged had seen (having Idle snapshots) (asking c) 1 (λ (entries : List Entry). entries ≡ Write (c ∷ []) ∷ [])
+writes_logged (change.Put key value) snapshots = record { free = refl; some = omega arith; needs_is = refl; asks = λ entries k history last starts low. k; fresh = λ r. refl; comes = none_comes (change.Put key value); labels = λ before r. refl }
+writes_logged (change.Del key) snapshots = record { free = refl; some = omega arith; needs_is = refl; asks = λ entries k history last starts low. k; fresh = λ r. refl; comes = none_comes (change.Del key); labels = λ before r. refl }
 
 -- ---- a write
 
@@ -142,7 +142,7 @@ module _ {D : Type 0} (z : SharedState D) (old new : SeatState) (c : Change) (sn
       (agrees.past event (subst (IsIn event) (sym (ap (λ (q : Participant). q.past) f.goes_on.participant)) (in_last event it.past)))))
 
   log_refused : (why : TxnError) (r : Reply) → refusal why ≡ Some r → Refuses z old new 1 (λ (entries : List Entry). entries ≡ Write (c ∷ []) ∷ []) (writing_direct (key_of c) it) (wrote_direct (key_of c) it) why → Answers z old new me me (asking c) r
-  log_refused = refused_answers z old new me (asking c) 1 (λ (entries : List Entry). entries ≡ Write (c ∷ []) ∷ []) (writes_logged c snapshots) (writing_direct (key_of c) it) (wrote_direct (key_of c) it) (locked (key_of c) (holder.Client it.client) ∷ []) (λ event there. in_front event it.past (locked (key_of c) (holder.Client it.client) ∷ []) there) refl refl refl lock_before
+  log_refused = refused_answers z old new me (asking c) 1 (λ (entries : List Entry). entries ≡ Write (c ∷ []) ∷ []) (writes_logged c snapshots) IsLoose tt (writing_direct (key_of c) it) (wrote_direct (key_of c) it) (locked (key_of c) (holder.Client it.client) ∷ []) (λ event there. in_front event it.past (locked (key_of c) (holder.Client it.client) ∷ []) there) refl refl refl lock_before
 
   pub not_written_answers : HoldsTxn z old held.Idle → (why : TxnError) (r : Reply) → refusal why ≡ Some r → WritesDirect z old c (Err why) new → IsAnswered z old new me me (asking c) r
   not_written_answers has (Busy by) r is f = subst (IsAnswered z old new me me (asking c)) (same_some (reply.Busy by) r is)

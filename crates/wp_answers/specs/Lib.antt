@@ -1,3 +1,4 @@
 pub mod Fresh
 pub mod Replies
+pub mod Settling
 pub mod Uncalled

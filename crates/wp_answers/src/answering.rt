@@ -10,6 +10,7 @@ ghost use Rattle.wp_answers.specs.Uncalled.{LeavesDevices};
 use crate::changes::change;
 use crate::decisions::{commit, leave, prepare, rollback};
 use crate::maintenance::{compact, flush, renew};
+use crate::settling::settle;
 use std::alloc::{AllocError, Global};
 use std::mem;
 use std::sync::Wait;
@@ -130,6 +131,7 @@ fn obey<D: Disk + Drop, R: Wait>(
         | Command::Commit
         | Command::Rollback
         | Command::Leave => change_txn(store, rt, alloc, seat, &mut held.txn, command),
+        Command::Settle(names) => settle(store, rt, alloc, seat, &held.txn, names),
         Command::Flush => flush(store, rt, seat),
         Command::Compact => compact(store, rt, alloc, seat),
         Command::Renew => renew(store, rt, seat),

@@ -1,24 +1,21 @@
 -- What a client is answered that begins a transaction, or takes one.
-use Rattle.std.proofs.Common.{◌≡◌, ℕ, false, List, [], ◌∷◌, length, take, Option, Some, None, refl, sym, subst, ap, ◌∙◌, arith}
-use Rattle.std.specs.Prelude.{◌≢◌, Ok, Err, is_some}
+use Rattle.std.proofs.Common.{◌≡◌, ℕ, false, List, [], ◌∷◌, length, take, Some, None, refl, sym, subst, ap, ◌∙◌, arith}
+use Rattle.std.specs.Prelude.{◌≢◌, Ok, Err}
 use Rattle.std.specs.Str.{bytes_eq}
 use Rattle.std.specs.FinMap as finite
-use Rattle.std.proofs.lemmas.Slice.Eq.{bytes_eq-Decides}
 use Rattle.wp_model.specs.declared.entry.Entry.{Entry}
 use Rattle.wp_model.specs.declared.holder.Holder.TheVariants as holder
-use Rattle.wp_model.specs.Flushed.{InstalledEdit}
-use Rattle.wp_model.specs.History.{is_undecided, name_at, named}
-use Rattle.wp_model.proofs.Found.{found_named}
+use Rattle.wp_model.specs.History.{named}
 use Rattle.wp_text.specs.declared.script.Command.TheVariants as command
 use Rattle.wp_text.specs.declared.reply.Reply.{Reply}
 use Rattle.wp_text.specs.declared.reply.Reply.TheVariants as reply
 use Rattle.wp_core.specs.Lists.{IsIn}
 use Rattle.wp_core.specs.Views.{Account, another, Event, claimed, took, found}
-use Rattle.wp_core.specs.World.{Transaction, Participant}
+use Rattle.wp_core.specs.World.{Participant}
 use Rattle.wp_core.proofs.KeepsSeen.{shorter}
 use Rattle.wp_core.proofs.PastsGrow.{in_last}
 use Rattle.wp_model.proofs.Tests.{same_some}
-use Rattle.wp_rule.specs.Accounts.{account_of, account_by}
+use Rattle.wp_rule.specs.Accounts.{account_of}
 use Rattle.wp_shared.specs.Calls.{Continues, with_events}
 use Rattle.wp_shared.specs.Seats.{SharedState, SeatState}
 use Rattle.wp_open_txns.specs.declared.error.TxnError.{TxnError}
@@ -29,18 +26,16 @@ use Rattle.wp_open_txns.specs.Txn.{OpenState, PreparedState, HasOpen}
 use Rattle.wp_replies.specs.declared.client.LabelledSnapshot.{LabelledSnapshot}
 use Rattle.wp_replies.specs.Txn.{Idle, Open, Prepared}
 use Rattle.wp_replies.specs.Client.{Client}
-use Rattle.wp_replies.specs.Progress.{Progress}
-use Rattle.wp_replies.specs.Replies.{Evidence, WasUndecided}
 use Rattle.wp_client.proofs.Alone.Names.{begun_alone, took_alone, taken_alone, unknown_alone, never_in_use}
 use Rattle.wp_client.specs.declared.holdings.HeldTxn.TheVariants as held
-use Rattle.wp_client.specs.Agrees.{Agrees, KnowsHolder}
-use Rattle.wp_client.specs.Answers.{AreNoted, IsProgress, IsExplained, Answers, BreaksOff, IsAnswered}
+use Rattle.wp_client.specs.Agrees.{KnowsHolder}
+use Rattle.wp_client.specs.Answers.{AreNoted, IsExplained, Answers, BreaksOff, IsAnswered}
 use Rattle.wp_client.specs.Holdings.{staged_of, HoldsTxn, HoldsFrom}
 use Rattle.wp_client.specs.Replies.{refusal}
 use Rattle.wp_client.proofs.Fitting.{else_answers}
 use Rattle.wp_client.proofs.Clients.{having, holds_from}
-use Rattle.wp_client.proofs.Growing.{of_one, seen_taken, last_still}
-use Rattle.wp_client.proofs.Holders.{account_is, found_taken}
+use Rattle.wp_client.proofs.Growing.{of_one, seen_taken, was_undecided, last_still}
+use Rattle.wp_client.proofs.Holders.{found_taken, of_another}
 use Rattle.wp_client.proofs.Labels.{itself}
 use Rattle.wp_client.proofs.Reading.{keeps_answers}
 use Rattle.wp_client.proofs.Staying.{past_more, holds_still, keeps_holds, broke_off, only_this, has_now, holds_now}
@@ -98,17 +93,7 @@ module _ {D : Type 0} (z : SharedState D) (old new : SeatState) (name : List ℕ
       else_answers z old new _ (with_events (took name ∷ []) (with_transaction name k.has.transaction it)) (took name ∷ []) me (having (Prepared txn.number) snapshots) (command.Take name) reply.Took txn.number k.goes_on refl refl refl
       (record { acknowledges = refl; tables = λ before. refl; labels = λ before. refl; log_failed = refl; log_stopped = refl; tables_failed = refl; once = omega arith; remembered = tt; explained = of_one (IsExplained it.client Idle (command.Take name) (Some reply.Took)) (took name) (itself name) })
       refl (λ before low are. tt) (λ before low. low)
-      (λ first is_first before p e agrees. was_undecided first before e p agrees)
-    where
-      was_undecided : (first : InstalledEdit) (before : Progress) (e : Evidence) → IsProgress first old Idle before → Agrees e z new.knows.participant → WasUndecided e.history before.last name txn.number
-      was_undecided first before e p agrees =
-          let seen = new.knows.participant.seen in let there = seen_taken e.history seen agrees.seen in let is = found_named seen name txn.number k.number_is in
-          let low = last_still first old Idle new.knows.participant before k.goes_on.seen p in let high = shorter e.history seen agrees.seen in record {
-            at = length seen;
-            fresh = (low, high);
-            undecided = ap (λ (h : List Entry). is_undecided h txn.number) there ∙ is.0;
-            named = ap (λ (h : List Entry). name_at h txn.number) there ∙ (bytes_eq-Decides (name_at seen txn.number) name).0 is.1;
-          }
+      (λ first is_first before p e agrees. was_undecided e.history new.knows.participant.seen before.last name txn.number agrees.seen (last_still first old Idle new.knows.participant before k.goes_on.seen p) k.number_is)
 
   pub took_answers : (txn : PreparedState) → Takes z old name txn new → IsAnswered z old new me (having (Prepared txn.number) snapshots) (command.Take name) reply.Took
   took_answers txn k = (took_beside txn k, λ world stands only first is_first store so locks. took_alone z first old new only store so (world, stands) snapshots name txn k)
@@ -124,7 +109,7 @@ module _ {D : Type 0} (z : SharedState D) (old new : SeatState) (name : List ℕ
   in_use_answers : HoldsTxn z old held.Idle → (other : List ℕ) → TakesPrepared z old name (Err (InUse other)) new → Answers z old new me me (command.Take name) (reply.InUse other)
   in_use_answers has other k = let f = k.1 in
       let account : Account = account_of it f.world.locks f.published None (holder.Txn name) in let event : Event = found None (holder.Txn name) (length it.seen) account in
-      let of_other : account ≡ another = account_is it f.world.locks f.published None (holder.Txn name) (ap (λ (x : Option Transaction). is_some x) (has.only name refl)) ∙ ap (account_by f.published) k.2.1 in
+      let of_other : account ≡ another = of_another it f.world.locks f.published name k.2.0 (has.only name refl) k.2.1 in
       else_answers z old new _ (with_events (event ∷ []) it) (event ∷ []) me me (command.Take name) (reply.InUse other) 0 f.goes_on refl refl refl
       (record { acknowledges = refl; tables = λ before. refl; labels = λ before. refl; log_failed = refl; log_stopped = refl; tables_failed = refl; once = omega arith; remembered = tt; explained = of_one (IsExplained it.client Idle (command.Take name) (Some (reply.InUse other))) event tt })
       refl (λ before low are. tt) (λ before low. low)
@@ -134,7 +119,7 @@ module _ {D : Type 0} (z : SharedState D) (old new : SeatState) (name : List ℕ
   not_taken_answers has (Unknown other at) r is k = subst (IsAnswered z old new me me (command.Take name)) (same_some (reply.Unknown other at) r is)
       (unknown_answers other at k, λ world stands only first is_first store so locks. unknown_alone z first old new only store so (world, stands) snapshots (λ own. has.only own refl) name other at k)
   not_taken_answers has (InUse other) r is k = subst (IsAnswered z old new me me (command.Take name)) (same_some (reply.InUse other) r is)
-      (in_use_answers has other k, λ world stands only first is_first store so locks. absurd (never_in_use z first old new only store so (world, stands) snapshots (λ own. has.only own refl) name other k))
+      (in_use_answers has other k, λ world stands only first is_first store so locks. absurd (never_in_use z old new only name other (has.only name refl) k))
   not_taken_answers has Memory r is k = absurd cc
   not_taken_answers has _ r is k = absurd k
 

@@ -1,9 +1,12 @@
 -- What a client knows by its replies, as the past of its seat grows.
-use Rattle.std.proofs.Common.{◌≡◌, ◌⊎◌, ⊎_elim, inl, inr, ℕ, ◌≤◌, true, List, [], ◌∷◌, ◌++◌, length, take, refl, sym, subst, ap, ◌∙◌, arith, fold}
+use Rattle.std.proofs.Common.{◌≡◌, ◌⊎◌, ⊎_elim, inl, inr, ℕ, ◌≤◌, true, List, [], ◌∷◌, ◌++◌, length, take, refl, sym, subst, ap, ◌∙◌, Some, arith, fold}
 use Rattle.std.proofs.Math.Seq.{take-append_seam}
 use Rattle.std.proofs.lemmas.List.{take-append-le}
+use Rattle.std.proofs.lemmas.Slice.Eq.{bytes_eq-Decides}
 use Rattle.wp_model.specs.declared.entry.Entry.{Entry}
 use Rattle.wp_model.specs.Flushed.{InstalledEdit}
+use Rattle.wp_model.specs.History.{is_undecided, name_at, named}
+use Rattle.wp_model.proofs.Found.{found_named}
 use Rattle.wp_core.specs.Lists.{IsIn}
 use Rattle.wp_core.specs.Sound.Actors.{StartsWith}
 use Rattle.wp_core.specs.Sound.Pasts.{due_after}
@@ -15,7 +18,7 @@ use Rattle.wp_shared.specs.Seats.{SharedState, SeatState}
 use Rattle.wp_shared.proofs.Onward.{starts_on}
 use Rattle.wp_replies.specs.Txn.{Txn}
 use Rattle.wp_replies.specs.Progress.{Progress, knows_label}
-use Rattle.wp_replies.specs.Replies.{Evidence}
+use Rattle.wp_replies.specs.Replies.{Evidence, WasUndecided}
 use Rattle.wp_client.specs.Agrees.{Agrees}
 use Rattle.wp_client.specs.Answers.{HasLabel, HasBase, AreNoted, IsProgress}
 
@@ -45,6 +48,16 @@ taken_old history seen n starts low = ap (take n) starts.1 ∙ take-append-le n 
 -- all that was seen
 pub seen_taken : (history seen : List Entry) → StartsWith history seen → take (length seen) history ≡ seen
 seen_taken history seen starts = ap (take (length seen)) starts.1 ∙ take-append_seam seen starts.0
+
+-- a prepare that is undecided in what was seen was so by then
+pub was_undecided : (history seen : List Entry) (last : ℕ) (name : List ℕ) (p : ℕ) → StartsWith history seen → last ≤ length seen → named seen name ≡ Some p → WasUndecided history last name p
+was_undecided history seen last name p starts low number_is =
+    let there = seen_taken history seen starts in let is = found_named seen name p number_is in let high = shorter history seen starts in record {
+      at = length seen;
+      fresh = (low, high);
+      undecided = ap (λ (h : List Entry). is_undecided h p) there ∙ is.0;
+      named = ap (λ (h : List Entry). name_at h p) there ∙ (bytes_eq-Decides (name_at seen p) name).0 is.1;
+    }
 
 -- what agrees with a seat agrees with it as it was earlier
 pub agrees_before : {D : Type 0} (z : SharedState D) (e : Evidence) (p q : Participant) (events : List Event) → StartsWith q.seen p.seen → q.past ≡ p.past ++ events → Agrees e z q → Agrees e z p

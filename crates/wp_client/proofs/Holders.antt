@@ -7,6 +7,7 @@ use Rattle.wp_model.specs.declared.entry.Entry.{Entry}
 use Rattle.wp_model.specs.declared.holder.Holder.{Holder}
 use Rattle.wp_model.specs.declared.holder.Holder.TheVariants as holder
 use Rattle.wp_model.specs.LockState.{LockState}
+use Rattle.wp_core.specs.Views.{another}
 use Rattle.wp_core.specs.World.{Transaction, Participant}
 use Rattle.wp_rule.specs.Accounts.{is_key, is_self, account_by, account_else, account_of}
 use Rattle.wp_replies.specs.Replies.{Evidence, WasUndecided, IsBusy, IsNameTaken}
@@ -22,7 +23,7 @@ not_self p key (holder.Txn name) direct none = ap (λ (x : Option Transaction). 
 not_self p (Some key) (holder.Client client) direct none = ap (λ (d : Option (List ℕ)). bytes_eq p.client client && is_key d key) direct ∙ and_false (bytes_eq p.client client)
 not_self p None (holder.Client client) direct none = refl
 
-pub account_is : (p : Participant) (t : LockState) (published : ℕ) (key : Option (List ℕ)) (h : Holder) → is_self p key h ≡ false → account_of p t published key h ≡ account_else t published h
+account_is : (p : Participant) (t : LockState) (published : ℕ) (key : Option (List ℕ)) (h : Holder) → is_self p key h ≡ false → account_of p t published key h ≡ account_else t published h
 account_is p t published key h none = rw none refl
 
 -- a prepare that was undecided once more was seen was so once less was
@@ -60,3 +61,7 @@ pub found_taken : (e : Evidence) (last : ℕ) (name : List ℕ) (p : Participant
     → KnowsHolder e None (holder.Txn name) (length p.seen) (account_of p t published None (holder.Txn name)) → IsNameTaken e last name
 found_taken e last name p t published low direct none k =
     taken_by e last (length p.seen) name published (finite.get t.names name) low (subst (KnowsHolder e None (holder.Txn name) (length p.seen)) (account_is p t published None (holder.Txn name) (ap (λ (x : Option Transaction). is_some x) none)) k)
+
+-- who is found to have a name of which the participant has no transaction is another client
+pub of_another : (p : Participant) (t : LockState) (published : ℕ) (name client : List ℕ) → finite.get p.transactions name ≡ None → finite.get t.names name ≡ Some (Some client) → account_of p t published None (holder.Txn name) ≡ another
+of_another p t published name client none is = account_is p t published None (holder.Txn name) (ap (λ (x : Option Transaction). is_some x) none) ∙ ap (account_by published) is

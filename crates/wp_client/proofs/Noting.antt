@@ -14,10 +14,10 @@ use Rattle.wp_text.specs.declared.script.Command.{Command}
 use Rattle.wp_text.specs.declared.reply.Reply.{Reply}
 use Rattle.wp_core.specs.Lists.{IsIn}
 use Rattle.wp_core.specs.Sound.Actors.{StartsWith}
-use Rattle.wp_core.specs.Views.{unchanged}
+use Rattle.wp_core.specs.Views.{Fact, unchanged}
 use Rattle.wp_core.specs.World.{Participant}
 use Rattle.wp_core.proofs.KeepsSeen.{shorter}
-use Rattle.wp_shared.specs.Calls.{Continues}
+use Rattle.wp_shared.specs.Calls.{IsLoose, ContinuesWith, Continues}
 use Rattle.wp_shared.specs.Seats.{SharedState, SeatState}
 use Rattle.wp_open_txns.proofs.Keys.{changed_with}
 use Rattle.wp_replies.specs.Txn.{Txn, Staged, Idle, Open, Prepared, is_its_key}
@@ -115,9 +115,25 @@ ComesNone c r = (before : Progress) → keys_after before c r ≡ with_behind be
 abbrev pub IsLater : SeatState → Command → Reply → Type 0
 IsLater old c r = IfSome (fresh_in c r) (λ n. length old.knows.participant.seen ≤ n)
 
+-- among the facts that stay is that a key of an open transaction is unchanged
+abbrev pub KeepsUnchanged : (Fact → Type 0) → Txn → Type 0
+KeepsUnchanged Stays (Open own) = (name key : List ℕ) (n : ℕ) → Stays (unchanged name key n)
+KeepsUnchanged Stays other = Unit {0}
+
+pub noted_with : {D : Type 0} (Stays : Fact → Type 0) (z : SharedState D) (old new : SeatState) (after : Participant) → ContinuesWith Stays z old new after → (t : Txn) → KeepsUnchanged Stays t → (c : Command) (r : Reply) → ComesNone c r → IsLater old c r → KeepsNoted old new t t c r
+noted_with Stays z old new after goes Idle keeps c r none later = λ before low are. tt
+noted_with Stays z old new after goes (Open own) keeps c r none later = λ before low are.
+    subst (AreNoted new (Open own)) (sym (none before)) (still_noted old new (Open own) before.keys (fresh_in c r) goes.seen (λ name key n. goes.notes (unchanged name key n) (keeps name key n)) later are)
+noted_with Stays z old new after goes (Prepared p) keeps c r none later = λ before low are. tt
+
+-- ... where each is kept that needs no turn
+pub loose_unchanged : (t : Txn) → KeepsUnchanged IsLoose t
+loose_unchanged Idle = tt
+loose_unchanged (Open own) = λ name key n. refl
+loose_unchanged (Prepared p) = tt
+
 pub noted_still : {D : Type 0} (z : SharedState D) (old new : SeatState) (after : Participant) → Continues z old new after → (t : Txn) (c : Command) (r : Reply) → ComesNone c r → IsLater old c r → KeepsNoted old new t t c r
-noted_still z old new after goes t c r none later = λ before low are.
-    subst (AreNoted new t) (sym (none before)) (still_noted old new t before.keys (fresh_in c r) goes.seen (λ name key n. goes.notes (unchanged name key n) refl) later are)
+noted_still z old new after goes t = noted_with IsLoose z old new after goes t (loose_unchanged t)
 
 -- ---- a reply with which a key comes
 

@@ -38,7 +38,7 @@ tables_faults past = total (λ e. one_if (pasts.is_tables_fault e)) past
 
 -- the limits of a store
 abbrev pub limits_of : {D : Type 0} → SharedState D → Limits
-limits_of z = record { opened = opened_limit z; renewed = renewed_limit z }
+limits_of z = record { opened = opened_limit z; renewed = renewed_limit z; cells = z.cells }
 
 -- it is the first seat, which made and took in no other
 pub record IsOnly (s : SeatState) : Type 0 where
@@ -61,6 +61,7 @@ pub record IsStoreOf {D : Type 0} (z : SharedState D) (first : InstalledEdit) (p
   pub stopped : one_if store.stopped ≡ log_faults p.past
   pub limit : store.limit ≡ limit_at z store.installed.segment.base
   pub renewed_limit : store.renewed_limit ≡ renewed_limit z
+  pub cells : store.cells ≡ z.cells
   pub installed : store.installed ≡ last_installed first p.past
   pub halted : one_if store.halted ≡ tables_faults p.past
   pub board : (label : List ℕ) → (is_some (finite.get store.board label) ≡ true) ↔ ((n : ℕ) × IsIn (told label n) p.past)

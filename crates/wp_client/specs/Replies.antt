@@ -24,6 +24,7 @@ refusal (why.Conflict n) = Some (reply.Conflict n)
 refusal why.Silent = None
 refusal (why.Unknown name at) = Some (reply.Unknown name at)
 refusal (why.InUse name) = Some (reply.InUse name)
+refusal (why.Crowded first second) = Some (reply.Crowded first second)
 refusal (why.NumbersFull published limit) = Some (reply.Full published limit)
 refusal why.LogFault = Some reply.FaultLog
 refusal (why.Stopped n) = Some (reply.Stopped n)

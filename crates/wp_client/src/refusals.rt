@@ -22,6 +22,7 @@ pub fn refusal(why: TxnError) -> Result<Reply, AllocError>
         TxnError::Conflict(number) => Ok(Reply::Conflict(number)),
         TxnError::Unknown { name, at } => Ok(Reply::Unknown { name, at }),
         TxnError::InUse(name) => Ok(Reply::InUse(name)),
+        TxnError::Crowded { first, second } => Ok(Reply::Crowded { first, second }),
         TxnError::NumbersFull { published, limit } => Ok(Reply::Full { published, limit }),
         TxnError::LogFault => Ok(Reply::FaultLog),
         TxnError::Stopped(published) => Ok(Reply::Stopped(published)),

@@ -31,9 +31,10 @@ use Rattle.wp_replies.specs.Txn.{Txn, Staged, Idle, Open, Prepared, is_its_key}
 use Rattle.wp_replies.specs.Alike.{HasEach, IsLike, TxnIsFrom, AreFrom, IsFrom}
 use Rattle.wp_replies.specs.Client.{Client, number_of}
 use Rattle.wp_replies.specs.Progress.{ToldKey, Progress}
-use Rattle.wp_replies.specs.Replies.{Evidence, IsFresh, IsLoggedAt, WasUndecided, HadKey, WasPreparedSince, IsBusy, IsNameTaken, OwnSays, ConflictsAt, IsKept, AreKept, IsValidated, KeepsKeys, PreparesAt, CommitsAt, RollsBackAt, IsFlushCount, IsCompactionCount, RenewsSomething, HasNothingToFlush, FailsFlush, FailsCompaction, FailsRenewal, Condition}
+use Rattle.wp_replies.specs.Replies.{Evidence, IsFresh, IsLoggedAt, WasUndecided, HadKey, WasPreparedSince, IsBusy, IsNameTaken, OwnSays, ConflictsAt, IsKept, AreKept, IsValidated, KeepsKeys, PreparesAt, CommitsAt, RollsBackAt, AsksFor, AreNamed, SettlesAll, AreCrowded, IsFirstRefused, IsFlushCount, IsCompactionCount, RenewsSomething, HasNothingToFlush, FailsFlush, FailsCompaction, FailsRenewal, Condition}
 use Rattle.wp_replies.specs.Tables.{unflushed, after_flush, listed, retained, after_compaction, with_table, after_renewal}
-use Rattle.wp_replies.proofs.Conditions.{entry_within}
+use Rattle.wp_replies.proofs.Conditions.{entry_within, logged_within}
+use Rattle.wp_replies.proofs.Settles.{zip_map, committed_too, refused_too, asks_too, settled_fresh}
 
 -- ---- snapshots
 
@@ -200,6 +201,46 @@ module _ (e : Evidence) (other : List Entry) (k : IsLike e other) where
   rolls_other last (Prepared p) n low (closed, (batch, undone)) = (logged_other last n _ low closed, (batch, logged_other last (n - 1) _ low undone))
   rolls_other last _ n low l = absurd l
 
+  -- ---- several transactions at once
+
+  named_other : (n : ℕ) (names : List (List ℕ)) (numbers : List ℕ) → e.base ≤ n → n ≤ length e.history → AreNamed (take n e.history) names numbers → AreNamed (take n other) names numbers
+  named_other n names numbers low high all = zip_map _ _ (λ name p is. sym (a.whole.names name n low high) ∙ is) names numbers all
+
+  module _ (last : ℕ) (low : e.base ≤ last) where
+    logged_there : (n : ℕ) (x : Entry) → IsLoggedAt e.history last n x → IsLoggedAt other last n x
+    logged_there n x l = logged_other last n x low l
+
+    was_there : (name : List ℕ) (p : ℕ) → WasUndecided e.history last name p → WasUndecided other last name p
+    was_there name p was = was_other last name p low was
+
+    settles_other : (names : List (List ℕ)) (n count : ℕ) → SettlesAll e.history last names n count → SettlesAll other last names n count
+    settles_other names n count s =
+        let fresh = (settled_fresh e.history last names n count (logged_within e.history last) s).0 in record {
+          all = s.all;
+          some = s.some;
+          published = s.published;
+          behind = s.behind;
+          numbers = s.numbers;
+          named = named_other s.published names s.numbers (omega (arith, low, fresh.0)) fresh.1 s.named;
+          committed = committed_too e.history other last logged_there was_there s.published s.numbers s.committed;
+        }
+
+    crowded_other : (names : List (List ℕ)) (p q : ℕ) → AreCrowded e last names p q → AreCrowded with_other last names p q
+    crowded_other names p q c =
+        let fresh = c.fresh in record {
+          at = c.at;
+          fresh = fresh_other last c.at fresh;
+          numbers = c.numbers;
+          named = named_other c.at names c.numbers (omega (arith, low, fresh.0)) fresh.1 c.named;
+          crowded = c.crowded;
+        }
+
+    refused_other : (names : List (List ℕ)) (name : List ℕ) → IsFirstRefused e.history last names name → IsFirstRefused other last names name
+    refused_other names name r = refused_too e.history other last logged_there was_there names name r
+
+    asks_other : (txn : Txn) (c : Command) (entries : List Entry) → AsksFor e.history last txn c entries → AsksFor other last txn c entries
+    asks_other txn c entries asks = asks_too e.history other last logged_there was_there txn c entries asks
+
   -- ---- tables
 
   flush_count_other : (n versions : ℕ) → n ≤ length e.history → IsFlushCount e n versions → IsFlushCount with_other n versions
@@ -302,7 +343,7 @@ module _ (e : Evidence) (other : List Entry) (k : IsLike e other) where
 
   pub condition_other : (progress : Progress) (client : Client) (p : ℕ) (c : Command) (r : Reply) → IsFrom e.base e.history progress client → Condition e progress client p c r → Condition with_other progress client p c r
   condition_other progress client p c (reply.Full published most) f k = (k.0, fresh_other progress.last published k.1, k.2, k.3)
-  condition_other progress client p c reply.FaultLog f k = (k.0, renews_other c k.1)
+  condition_other progress client p c reply.FaultLog f k = (asks_other progress.last f.last client.txn c e.failed.entries k.0, renews_other c k.1)
   condition_other progress client p c (reply.Stopped n) f k = (k.0, fresh_other progress.last n k.1, k.2)
   condition_other progress client p (command.Put key value) (reply.Put n) f k = (k.0, logged_other progress.last n _ f.last k.1)
   condition_other progress client p (command.Put key value) reply.Held f k = k
@@ -339,6 +380,10 @@ module _ (e : Evidence) (other : List Entry) (k : IsLike e other) where
   condition_other progress client p (command.Take name) reply.Took f k = was_other progress.last name p f.last k
   condition_other progress client p (command.Take name) (reply.Unknown other n) f k = (k.0, fresh_other progress.last n k.1, sym (a.whole.names name n (let low = f.last in omega (arith, low, k.1.0)) k.1.1) ∙ k.2)
   condition_other progress client p (command.Take name) (reply.InUse other) f k = k
+  condition_other progress client p (command.Settle names) (reply.Settled n count) f k = (k.0, settles_other progress.last f.last names n count k.1)
+  condition_other progress client p (command.Settle names) (reply.Crowded first second) f k = (k.0, crowded_other progress.last f.last names first second k.1)
+  condition_other progress client p (command.Settle names) (reply.Unknown name n) f k = (k.0, refused_other progress.last f.last names name k.1, fresh_other progress.last n k.2, sym (a.whole.names name n (let low = f.last in omega (arith, low, k.2.0)) k.2.1) ∙ k.3)
+  condition_other progress client p (command.Settle names) (reply.InUse name) f k = (k.0, refused_other progress.last f.last names name k.1, k.2)
   condition_other progress client p command.Flush (reply.Flushed n versions) f k = (fresh_other progress.last n k.0, k.1, flush_count_other n versions k.0.1 k.2)
   condition_other progress client p command.Flush reply.Nothing f k = nothing_to_flush_other progress.last k
   condition_other progress client p command.Flush (reply.Halted flushed) f k = k

@@ -22,9 +22,10 @@ use Rattle.wp_replies.specs.Txn.{Txn, Staged, Idle, Open, Prepared}
 use Rattle.wp_replies.specs.Client.{Client}
 use Rattle.wp_replies.specs.After.{labels_after, after_reply}
 use Rattle.wp_replies.specs.Progress.{ToldKey, Progress, progress_after}
-use Rattle.wp_replies.specs.Replies.{Claim, Evidence, IsKnown, HasName, HasTaken, HasKey, WasLocked, WritesKey, WasTold, LogStopped, WasFlushed, WasBase, NoneRenewed, TablesFailed, OtherCompacted, refusal_of, IsFresh, IsLoggedAt, WasUndecided, HadKey, WasPreparedSince, IsBusy, IsNameTaken, OwnSays, ConflictsAt, KeepsKeys, PreparesAt, CommitsAt, RollsBackAt, IsFlushCount, IsCompactionCount, HadBase, RenewsSomething, HasNothingToRenew, HasNothingToFlush, HasNothingToMerge, FailsFlush, FailsCompaction, FailsRenewal, IsHaltedAt, Condition, UnlessRefused}
+use Rattle.wp_replies.specs.Replies.{Claim, Evidence, IsKnown, HasName, HasTaken, HasKey, WasLocked, WritesKey, WasTold, LogStopped, WasFlushed, WasBase, NoneRenewed, TablesFailed, OtherCompacted, refusal_of, IsFresh, IsLoggedAt, WasUndecided, HadKey, WasPreparedSince, IsBusy, IsNameTaken, OwnSays, ConflictsAt, KeepsKeys, PreparesAt, CommitsAt, RollsBackAt, AsksFor, AreNamed, SettlesAll, AreCrowded, IsFirstRefused, IsFlushCount, IsCompactionCount, HadBase, RenewsSomething, HasNothingToRenew, HasNothingToFlush, HasNothingToMerge, FailsFlush, FailsCompaction, FailsRenewal, IsHaltedAt, Condition, UnlessRefused}
 use Rattle.wp_replies.specs.Session.{IsSession}
 use Rattle.wp_replies.specs.Tables.{unflushed, after_flush, listed, after_compaction, after_renewal}
+use Rattle.wp_replies.proofs.Settles.{committed_too, refused_too, asks_too, settled_fresh}
 
 -- ---- entries
 
@@ -128,6 +129,37 @@ rolls_more : (h more : List Entry) (last : ℕ) (txn : Txn) (n : ℕ) → RollsB
 rolls_more h more last (Prepared p) n (closed, (batch, undone)) = (logged_more h more last n _ closed, (batch, logged_more h more last (n - 1) _ undone))
 rolls_more h more last _ n l = absurd l
 
+-- ---- several transactions at once
+
+pub logged_within : (h : List Entry) (last n : ℕ) (e : Entry) → IsLoggedAt h last n e → n ≤ length h
+logged_within h last n e l = entry_within h n e l.1
+
+settles_more : (h more : List Entry) (last : ℕ) (names : List (List ℕ)) (n count : ℕ) → SettlesAll h last names n count → SettlesAll (h ++ more) last names n count
+settles_more h more last names n count k = record {
+  all = k.all;
+  some = k.some;
+  published = k.published;
+  behind = k.behind;
+  numbers = k.numbers;
+  named = front_more (λ f. AreNamed f names k.numbers) h more k.published (settled_fresh h last names n count (logged_within h last) k).0.1 k.named;
+  committed = committed_too h (h ++ more) last (logged_more h more last) (was_more h more last) k.published k.numbers k.committed;
+}
+
+crowded_more : (e : Evidence) (more : List Entry) (later : Claim → Bool) (last : ℕ) (names : List (List ℕ)) (p q : ℕ) → AreCrowded e last names p q → AreCrowded (grown e more later) last names p q
+crowded_more e more later last names p q k = record {
+  at = k.at;
+  fresh = fresh_more e.history more last k.at k.fresh;
+  numbers = k.numbers;
+  named = front_more (λ f. AreNamed f names k.numbers) e.history more k.at k.fresh.1 k.named;
+  crowded = k.crowded;
+}
+
+refused_more : (h more : List Entry) (last : ℕ) (names : List (List ℕ)) (name : List ℕ) → IsFirstRefused h last names name → IsFirstRefused (h ++ more) last names name
+refused_more h more last names name k = refused_too h (h ++ more) last (logged_more h more last) (was_more h more last) names name k
+
+asks_more : (h more : List Entry) (last : ℕ) (txn : Txn) (c : Command) (entries : List Entry) → AsksFor h last txn c entries → AsksFor (h ++ more) last txn c entries
+asks_more h more last txn c entries asks = asks_too h (h ++ more) last (logged_more h more last) (was_more h more last) txn c entries asks
+
 -- ---- tables
 
 flush_count_more : (e : Evidence) (more : List Entry) (later : Claim → Bool) → KnowsMore e later → (n versions : ℕ) → n ≤ length e.history → IsFlushCount e n versions → IsFlushCount (grown e more later) n versions
@@ -209,7 +241,7 @@ snapshots_after p client c r = refl
 
 condition_more : (e : Evidence) (more : List Entry) (later : Claim → Bool) → e.base ≤ length e.history → KnowsMore e later → (progress : Progress) (client : Client) (p : ℕ) (c : Command) (r : Reply) → Condition e progress client p c r → Condition (grown e more later) progress client p c r
 condition_more e more later within f progress client p c (reply.Full published most) k = (k.0, fresh_more e.history more progress.last published k.1, (k.2.0, had_base_more e more later f progress published k.2.0 k.2.1, k.2.2), k.3)
-condition_more e more later within f progress client p c reply.FaultLog k = (k.0, renews_more e more later c k.1)
+condition_more e more later within f progress client p c reply.FaultLog k = (asks_more e.history more progress.last client.txn c e.failed.entries k.0, renews_more e more later c k.1)
 condition_more e more later within f progress client p c (reply.Stopped n) k = (k.0, fresh_more e.history more progress.last n k.1, f (LogStopped n) k.2)
 condition_more e more later within f progress client p (command.Put key value) (reply.Put n) k = (k.0, logged_more e.history more progress.last n _ k.1)
 condition_more e more later within f progress client p (command.Put key value) reply.Held k = k
@@ -246,6 +278,10 @@ condition_more e more later within f progress client p command.Leave reply.Left 
 condition_more e more later within f progress client p (command.Take name) reply.Took k = was_more e.history more progress.last name p k
 condition_more e more later within f progress client p (command.Take name) (reply.Unknown other n) k = (k.0, fresh_more e.history more progress.last n k.1, front_more (λ f. named f name ≡ None) e.history more n k.1.1 k.2)
 condition_more e more later within f progress client p (command.Take name) (reply.InUse other) k = (k.0, f (HasName name) k.1)
+condition_more e more later within f progress client p (command.Settle names) (reply.Settled n count) k = (k.0, settles_more e.history more progress.last names n count k.1)
+condition_more e more later within f progress client p (command.Settle names) (reply.Crowded first second) k = (k.0, crowded_more e more later progress.last names first second k.1)
+condition_more e more later within f progress client p (command.Settle names) (reply.Unknown name n) k = (k.0, refused_more e.history more progress.last names name k.1, fresh_more e.history more progress.last n k.2, front_more (λ f. named f name ≡ None) e.history more n k.2.1 k.3)
+condition_more e more later within f progress client p (command.Settle names) (reply.InUse name) k = (k.0, refused_more e.history more progress.last names name k.1, f (HasName name) k.2)
 condition_more e more later within f progress client p command.Flush (reply.Flushed n versions) k = (fresh_more e.history more progress.last n k.0, k.1, flush_count_more e more later f n versions k.0.1 k.2)
 condition_more e more later within f progress client p command.Flush reply.Nothing k = nothing_to_flush_more e more later f progress.last k
 condition_more e more later within f progress client p command.Flush (reply.Halted flushed) k = halted_more e more later f flushed k

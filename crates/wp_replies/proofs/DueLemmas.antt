@@ -5,7 +5,6 @@ use Rattle.std.specs.FinMap as map
 use Rattle.std.specs.List.{AllByRecursion, find}
 use Rattle.std.specs.Option.{option_map}
 use Rattle.std.proofs.lemmas.Bool.{cases_Bool, and_parts}
-use Rattle.std.proofs.lemmas.Slice.Eq.{bytes_eq-Decides}
 use Rattle.std.proofs.lemmas.List.{take-append-drop}
 use Rattle.wp_model.specs.declared.change.Change.{Change}
 use Rattle.wp_model.specs.declared.change.Change.TheVariants as change
@@ -42,8 +41,9 @@ use Rattle.wp_model.specs.Rows.{rows}
 use Rattle.wp_model.proofs.RowLaws.{same_rows}
 use Rattle.wp_replies.proofs.Within.{within_same, within_filter, within_more, number_within}
 use Rattle.wp_replies.proofs.Conditions.{snapshots_after}
-use Rattle.wp_replies.proofs.Scenes.{entry_in_front, next_entry, value_in_front, Scene, front, store_in, ConditionOf, IsAllowed, front_size, front_fresh, say_refused, say_allowed, board_allowed, may_fail, log_allowed, entries_in, one_allowed}
+use Rattle.wp_replies.proofs.Scenes.{entry_in_front, next_entry, value_in_front, Scene, front, was_in, store_in, ConditionOf, IsAllowed, front_size, front_fresh, say_refused, say_allowed, board_allowed, may_fail, log_allowed, entries_in, one_allowed}
 use Rattle.wp_replies.proofs.BelowAll.{from_same, from_filter, pinned_late}
+use Rattle.wp_replies.proofs.DueSettles.{settle_allowed}
 use Rattle.wp_replies.proofs.DueTables.{flush_allowed, compact_allowed, renew_allowed}
 
 -- ---- keys
@@ -121,7 +121,7 @@ key_allowed {client = client} {c = c} s own key made opened plan_is plain free b
 -- ---- put, del
 
 change_allowed : {client : Client} {c : Command} {answer : Reply} (s : Scene client c answer) (change : Change) (made : Reply)
-    → plan_in (store_in s) client c ≡ change_plan (front s) (locked_in s) client.txn change made → refusal_of client c ≡ refuses_change client.txn (key_of change) → (client.txn ≡ Idle → needed client.txn c ≡ 1) → (client.txn ≡ Idle → AsksFor client.txn c (entry.Write (change ∷ []) ∷ [])) → is_logged made ≡ true
+    → plan_in (store_in s) client c ≡ change_plan (front s) (locked_in s) client.txn change made → refusal_of client c ≡ refuses_change client.txn (key_of change) → (client.txn ≡ Idle → needed client.txn c ≡ 1) → (client.txn ≡ Idle → AsksFor s.evidence.history s.progress.last client.txn c (entry.Write (change ∷ []) ∷ [])) → is_logged made ≡ true
     → (client.txn ≡ Idle → IsLoggedAt s.evidence.history s.progress.last (next (front s)) (entry.Write (change ∷ [])) → ConditionOf s made)
     → ((by : Holder) → HasNotKey client.txn (key_of change) → IsBusy s.evidence s.progress.last (key_of change) by → ConditionOf s (reply.Busy by))
     → ((n : ℕ) → ConflictsAt s.evidence.history s.progress.last client.txn (key_of change) n → ConditionOf s (reply.Conflict n))
@@ -286,12 +286,6 @@ free_allowed {client = client} label s = by (number_of client.snapshots label) r
 
 -- ---- transactions
 
-was_in : {client : Client} {c : Command} {answer : Reply} (s : Scene client c answer) (name : List ℕ) (p : ℕ) → named (front s) name ≡ Some p → WasUndecided s.evidence.history s.progress.last name p
-was_in s name p is =
-    let found = found_named (front s) name p is in
-    let fresh = front_fresh s in
-    record { at = s.given.before; fresh = (omega (arith, fresh.0, front_size s), omega (arith, fresh.1, front_size s)); undecided = found.0; named = (bytes_eq-Decides _ _).0 found.1 }
-
 begin_allowed : {client : Client} {answer : Reply} (name : List ℕ) (s : Scene client (command.Begin name) answer) → IsAllowed s
 begin_allowed {client = client} name s = by client.txn refl
   where
@@ -316,7 +310,7 @@ prepare_allowed {client = client} s = by client.txn refl
   where
     by : (txn : Txn) → client.txn ≡ txn → IsAllowed s
     by Idle is = say_refused s reply.State (ap (prepare_plan (front s)) is) refl (ap unless_open is)
-    by (Open own) is = one_allowed s (entry.Prepare own.name own.batch) (reply.Prepared (next (front s))) (ap (prepare_plan (front s)) is) refl (ap unless_open is) (ap (λ (t : Txn). needed t command.Prepare) is) (subst (λ (t : Txn). AsksFor t command.Prepare (entry.Prepare own.name own.batch ∷ [])) (sym is) refl) (λ here. subst (λ (t : Txn). PreparesAt s.evidence.history s.progress t (next (front s))) (sym is) (here, keeps_before s own is))
+    by (Open own) is = one_allowed s (entry.Prepare own.name own.batch) (reply.Prepared (next (front s))) (ap (prepare_plan (front s)) is) refl (ap unless_open is) (ap (λ (t : Txn). needed t command.Prepare) is) (subst (λ (t : Txn). AsksFor s.evidence.history s.progress.last t command.Prepare (entry.Prepare own.name own.batch ∷ [])) (sym is) refl) (λ here. subst (λ (t : Txn). PreparesAt s.evidence.history s.progress t (next (front s))) (sym is) (here, keeps_before s own is))
     by (Prepared p) is = say_refused s reply.State (ap (prepare_plan (front s)) is) refl (ap unless_open is)
 
 commit_allowed : {client : Client} {answer : Reply} (s : Scene client command.Commit answer) → IsAllowed s
@@ -324,8 +318,8 @@ commit_allowed {client = client} s = by client.txn refl
   where
     by : (txn : Txn) → client.txn ≡ txn → IsAllowed s
     by Idle is = say_refused s reply.State (ap (commit_plan (front s)) is) refl (ap if_idle is)
-    by (Open own) is = one_allowed s (entry.Write own.batch) (reply.Committed (next (front s))) (ap (commit_plan (front s)) is) refl (ap if_idle is) (ap (λ (t : Txn). needed t command.Commit) is) (subst (λ (t : Txn). AsksFor t command.Commit (entry.Write own.batch ∷ [])) (sym is) refl) (λ here. subst (λ (t : Txn). CommitsAt s.evidence.history s.progress t (next (front s))) (sym is) (here, keeps_before s own is))
-    by (Prepared p) is = one_allowed s (entry.Commit p) (reply.Committed (next (front s))) (ap (commit_plan (front s)) is) refl (ap if_idle is) (ap (λ (t : Txn). needed t command.Commit) is) (subst (λ (t : Txn). AsksFor t command.Commit (entry.Commit p ∷ [])) (sym is) refl) (λ here. subst (λ (t : Txn). CommitsAt s.evidence.history s.progress t (next (front s))) (sym is) here)
+    by (Open own) is = one_allowed s (entry.Write own.batch) (reply.Committed (next (front s))) (ap (commit_plan (front s)) is) refl (ap if_idle is) (ap (λ (t : Txn). needed t command.Commit) is) (subst (λ (t : Txn). AsksFor s.evidence.history s.progress.last t command.Commit (entry.Write own.batch ∷ [])) (sym is) refl) (λ here. subst (λ (t : Txn). CommitsAt s.evidence.history s.progress t (next (front s))) (sym is) (here, keeps_before s own is))
+    by (Prepared p) is = one_allowed s (entry.Commit p) (reply.Committed (next (front s))) (ap (commit_plan (front s)) is) refl (ap if_idle is) (ap (λ (t : Txn). needed t command.Commit) is) (subst (λ (t : Txn). AsksFor s.evidence.history s.progress.last t command.Commit (entry.Commit p ∷ [])) (sym is) refl) (λ here. subst (λ (t : Txn). CommitsAt s.evidence.history s.progress t (next (front s))) (sym is) here)
 
 rollback_allowed : {client : Client} {answer : Reply} (s : Scene client command.Rollback answer) → IsAllowed s
 rollback_allowed {client = client} {answer = answer} s = by client.txn refl
@@ -343,7 +337,7 @@ rollback_allowed {client = client} {answer = answer} s = by client.txn refl
     by : (txn : Txn) → client.txn ≡ txn → IsAllowed s
     by Idle is = say_refused s reply.State (ap (rollback_plan (front s)) is) refl (ap if_idle is)
     by (Open own) is = say_allowed s reply.Dropped (ap (rollback_plan (front s)) is) refl (ap if_idle is) (subst TxnIsOpen (sym is) tt)
-    by (Prepared p) is = log_allowed s 2 (reply.RolledBack (next (front s) + 1)) (ap if_idle is) (ap (λ (t : Txn). needed t command.Rollback) is) (omega arith) (subst (λ (t : Txn). AsksFor t command.Rollback (asked_of (rollback_plan (front s) t))) (sym is) (prior (front s) (batch_at (front s) p), refl)) (ap (λ (t : Txn). reply_to (store_in s) client (rollback_plan (front s) t)) is) refl (λ answered. subst (λ (t : Txn). RollsBackAt s.evidence.history s.progress.last t (next (front s) + 1)) (sym is) (rolled p is answered))
+    by (Prepared p) is = log_allowed s 2 (reply.RolledBack (next (front s) + 1)) (ap if_idle is) (ap (λ (t : Txn). needed t command.Rollback) is) (omega arith) (subst (λ (t : Txn). AsksFor s.evidence.history s.progress.last t command.Rollback (asked_of (rollback_plan (front s) t))) (sym is) (prior (front s) (batch_at (front s) p), refl)) (ap (λ (t : Txn). reply_to (store_in s) client (rollback_plan (front s) t)) is) refl (λ answered. subst (λ (t : Txn). RollsBackAt s.evidence.history s.progress.last t (next (front s) + 1)) (sym is) (rolled p is answered))
 
 leave_allowed : {client : Client} {answer : Reply} (s : Scene client command.Leave answer) → IsAllowed s
 leave_allowed {client = client} s = by client.txn refl
@@ -387,8 +381,8 @@ hear_allowed {client = client} label s = by (map.get s.given.devices.board label
 -- ---- all commands
 
 due_allowed : (client : Client) (c : Command) (answer : Reply) (s : Scene client c answer) → IsAllowed s
-due_allowed client (command.Put key value) answer s = change_allowed s (change.Put key value) (reply.Put (next (front s))) refl refl (λ is. ap (λ (t : Txn). needed t (command.Put key value)) is) (λ is. subst (λ (t : Txn). AsksFor t (command.Put key value) (entry.Write (change.Put key value ∷ []) ∷ [])) (sym is) refl) refl (λ is here. (is, here)) (λ by new busy. (new, busy)) (λ n conflicts. conflicts) (λ opened. opened)
-due_allowed client (command.Del key) answer s = change_allowed s (change.Del key) (reply.Del (next (front s))) refl refl (λ is. ap (λ (t : Txn). needed t (command.Del key)) is) (λ is. subst (λ (t : Txn). AsksFor t (command.Del key) (entry.Write (change.Del key ∷ []) ∷ [])) (sym is) refl) refl (λ is here. (is, here)) (λ by new busy. (new, busy)) (λ n conflicts. conflicts) (λ opened. opened)
+due_allowed client (command.Put key value) answer s = change_allowed s (change.Put key value) (reply.Put (next (front s))) refl refl (λ is. ap (λ (t : Txn). needed t (command.Put key value)) is) (λ is. subst (λ (t : Txn). AsksFor s.evidence.history s.progress.last t (command.Put key value) (entry.Write (change.Put key value ∷ []) ∷ [])) (sym is) refl) refl (λ is here. (is, here)) (λ by new busy. (new, busy)) (λ n conflicts. conflicts) (λ opened. opened)
+due_allowed client (command.Del key) answer s = change_allowed s (change.Del key) (reply.Del (next (front s))) refl refl (λ is. ap (λ (t : Txn). needed t (command.Del key)) is) (λ is. subst (λ (t : Txn). AsksFor s.evidence.history s.progress.last t (command.Del key) (entry.Write (change.Del key ∷ []) ∷ [])) (sym is) refl) refl (λ is here. (is, here)) (λ by new busy. (new, busy)) (λ n conflicts. conflicts) (λ opened. opened)
 due_allowed client (command.Get key) answer s = get_allowed key s
 due_allowed client (command.GetAt key label) answer s = get_at_allowed key label s
 due_allowed client (command.Scan from to) answer s = scan_allowed from to s
@@ -403,6 +397,7 @@ due_allowed client command.Commit answer s = commit_allowed s
 due_allowed client command.Rollback answer s = rollback_allowed s
 due_allowed client command.Leave answer s = leave_allowed s
 due_allowed client (command.Take name) answer s = take_allowed name s
+due_allowed client (command.Settle names) answer s = settle_allowed names s
 due_allowed client command.Flush answer s = flush_allowed s
 due_allowed client command.Compact answer s = compact_allowed s
 due_allowed client command.Renew answer s = renew_allowed s

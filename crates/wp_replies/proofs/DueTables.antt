@@ -179,10 +179,10 @@ compact_allowed {client = client} s =
 -- ---- a renewal
 
 -- it asks the log for no entry
-pub asks_none : (txn : Txn) (entries : List Entry) → entries ≡ [] → AsksFor txn command.Renew entries
-asks_none Idle entries none = none
-asks_none (Open own) entries none = none
-asks_none (Prepared p) entries none = none
+pub asks_none : (history : List Entry) (last : ℕ) (txn : Txn) (entries : List Entry) → entries ≡ [] → AsksFor history last txn command.Renew entries
+asks_none history last Idle entries none = none
+asks_none history last (Open own) entries none = none
+asks_none history last (Prepared p) entries none = none
 
 -- the base goes up
 base_below : {client : Client} {answer : Reply} (s : Scene client command.Renew answer) → (s.given.devices.installed.segment.base == length (front s)) ≡ false → s.given.devices.installed.segment.base < length (front s)
@@ -246,5 +246,5 @@ renew_allowed {client = client} {answer = answer} s = by_condition s refl (by s.
 
     by : IsReply (store_in s) client command.Renew answer → ConditionOf s answer
     by (inl is) = by_due answer is
-    by (inr (inl failed)) = subst (ConditionOf s) (sym failed.0) (let asked = s.given.asked (ap is_fault failed.0) in (asks_none client.txn s.evidence.failed.entries asked.0, more asked.1 (differs calls_log refl refl refl failed.1)))
+    by (inr (inl failed)) = subst (ConditionOf s) (sym failed.0) (let asked = s.given.asked (ap is_fault failed.0) in (asks_none s.evidence.history s.progress.last client.txn s.evidence.failed.entries asked.0, more asked.1 (differs calls_log refl refl refl failed.1)))
     by (inr (inr failed)) = subst (ConditionOf s) (sym failed.0) (renewal_fails s (differs is_installed refl refl refl failed.1) (ap is_tables_fault failed.0))

@@ -1,7 +1,9 @@
 pub mod Within
+pub mod Settles
 pub mod Conditions
 pub mod Scenes
 pub mod DueTables
+pub mod DueSettles
 pub mod DueLemmas
 pub mod SessionLemmas
 pub mod Below

@@ -4,8 +4,10 @@ use Rattle.std.specs.Prelude.{slice_get, nat_lt}
 use Rattle.std.specs.List.{AllByRecursion}
 use Rattle.std.proofs.lemmas.Bool.{cases_Bool, ltb-true}
 use Rattle.std.proofs.lemmas.List.{take-append-drop}
+use Rattle.std.proofs.lemmas.Slice.Eq.{bytes_eq-Decides}
 use Rattle.wp_model.specs.declared.entry.Entry.{Entry}
-use Rattle.wp_model.specs.History.{entry_at, newest, value_at}
+use Rattle.wp_model.specs.History.{entry_at, named, newest, value_at}
+use Rattle.wp_model.proofs.Found.{found_named}
 use Rattle.wp_text.specs.declared.script.Command.{Command}
 use Rattle.wp_text.specs.declared.script.Command.TheVariants as command
 use Rattle.wp_text.specs.declared.reply.Reply.{Reply}
@@ -17,7 +19,7 @@ use Rattle.wp_replies.specs.Alike.{AreFrom}
 use Rattle.wp_replies.specs.Client.{Client, pins_of, AreWithin}
 use Rattle.wp_replies.specs.Kind.{Kind, Logged, kind, is_logged, says_logged, is_fault, is_installed, says_installed, calls_log}
 use Rattle.wp_replies.specs.Progress.{Progress}
-use Rattle.wp_replies.specs.Replies.{LogStopped, Evidence, IsKnown, refusal_of, IsFresh, IsLoggedAt, TxnIsWithin, needed, AsksFor, HadBase, RenewsSomething, Condition, UnlessRefused, Allows}
+use Rattle.wp_replies.specs.Replies.{LogStopped, Evidence, IsKnown, refusal_of, IsFresh, IsLoggedAt, WasUndecided, TxnIsWithin, needed, AsksFor, HadBase, RenewsSomething, Condition, UnlessRefused, Allows}
 use Rattle.wp_replies.specs.Plan.{asked_of, next}
 use Rattle.wp_replies.specs.Due.{Store, plan_in, logged, reply_to, due, IsReply, logged_entries, taken}
 use Rattle.wp_replies.specs.Moments.{store_at, IsDueFrom}
@@ -90,6 +92,13 @@ front_size s = size s.evidence.history s.given.before (omega (arith, s.given.gro
 pub front_fresh : {client : Client} {c : Command} {answer : Reply} (s : Scene client c answer) → IsFresh s.evidence.history s.progress.last (length (front s))
 front_fresh s = (omega (arith, front_size s, s.low, s.given.earlier), omega (arith, front_size s, s.given.grows, s.given.within))
 
+-- what has a name is undecided
+pub was_in : {client : Client} {c : Command} {answer : Reply} (s : Scene client c answer) (name : List ℕ) (p : ℕ) → named (front s) name ≡ Some p → WasUndecided s.evidence.history s.progress.last name p
+was_in s name p is =
+    let found = found_named (front s) name p is in
+    let fresh = front_fresh s in
+    record { at = s.given.before; fresh = (omega (arith, fresh.0, front_size s), omega (arith, fresh.1, front_size s)); undecided = found.0; named = (bytes_eq-Decides _ _).0 found.1 }
+
 -- a device may fail in place of the reply
 abbrev pub may_fail : Reply → Bool
 may_fail r = calls_log r || is_installed r
@@ -155,7 +164,7 @@ needs_no_renewal e (Prepared p) command.Renew some = absurd (omega (arith, some)
 needs_no_renewal e txn other some = tt
 
 -- the log takes so many entries, and the reply is this one; or it refuses them
-pub log_allowed : {client : Client} {c : Command} {answer : Reply} (s : Scene client c answer) (count : ℕ) (made : Reply) → refusal_of client c ≡ None → needed client.txn c ≡ count → 1 ≤ count → AsksFor client.txn c (asked_of (plan_in (store_in s) client c))
+pub log_allowed : {client : Client} {c : Command} {answer : Reply} (s : Scene client c answer) (count : ℕ) (made : Reply) → refusal_of client c ≡ None → needed client.txn c ≡ count → 1 ≤ count → AsksFor s.evidence.history s.progress.last client.txn c (asked_of (plan_in (store_in s) client c))
     → due (store_in s) client c ≡ logged (store_in s) count made → is_logged made ≡ true → (answer ≡ made → ConditionOf s made) → IsAllowed s
 log_allowed {client = client} {c = c} {answer = answer} s count made free needs some asks due_is logs condition = by_condition s free (by s.given.replied)
   where
@@ -181,7 +190,7 @@ log_allowed {client = client} {c = c} {answer = answer} s count made free needs 
 
     by : IsReply (store_in s) client c answer → ConditionOf s answer
     by (inl is) = on_log (is ∙ due_is)
-    by (inr (inl fault)) = subst (ConditionOf s) (sym fault.0) (subst (AsksFor client.txn c) (sym (s.given.asked (ap is_fault fault.0)).0) asks, needs_no_renewal s.evidence client.txn c needs_some)
+    by (inr (inl fault)) = subst (ConditionOf s) (sym fault.0) (subst (AsksFor s.evidence.history s.progress.last client.txn c) (sym (s.given.asked (ap is_fault fault.0)).0) asks, needs_no_renewal s.evidence client.txn c needs_some)
     by (inr (inr fault)) = let installs : is_installed (logged (store_in s) count made) ≡ true = subst (λ (r : Reply). is_installed r ≡ true) due_is fault.1 in absurd (logged_uninstalled (store_in s) count made logs installs)
 
 -- the entries of a reply that acknowledges them
@@ -191,10 +200,10 @@ entries_in {client = client} {c = c} s p made is logs answered =
     rw (logs, is) at all
 
 -- a plan with one entry
-pub one_allowed : {client : Client} {c : Command} {answer : Reply} (s : Scene client c answer) (e : Entry) (made : Reply) → plan_in (store_in s) client c ≡ Log e made → is_logged made ≡ true → refusal_of client c ≡ None → needed client.txn c ≡ 1 → AsksFor client.txn c (e ∷ [])
+pub one_allowed : {client : Client} {c : Command} {answer : Reply} (s : Scene client c answer) (e : Entry) (made : Reply) → plan_in (store_in s) client c ≡ Log e made → is_logged made ≡ true → refusal_of client c ≡ None → needed client.txn c ≡ 1 → AsksFor s.evidence.history s.progress.last client.txn c (e ∷ [])
     → (IsLoggedAt s.evidence.history s.progress.last (next (front s)) e → ConditionOf s made) → IsAllowed s
 one_allowed {client = client} {c = c} s e made is logs free needs asks condition =
-    log_allowed s 1 made free needs (omega arith) (subst (AsksFor client.txn c) (sym (ap asked_of is)) asks) (ap (reply_to (store_in s) client) is) logs (λ answered.
+    log_allowed s 1 made free needs (omega arith) (subst (AsksFor s.evidence.history s.progress.last client.txn c) (sym (ap asked_of is)) asks) (ap (reply_to (store_in s) client) is) logs (λ answered.
     let all = entries_in s (Log e made) made is logs answered in
     let here = entry_in_front s.evidence.history s.given.after (next (front s)) e (subst (λ (xs : List Entry). entry_at xs (next (front s)) ≡ Some e) (sym all) (next_entry (front s) [] e (next (front s)) refl)) in
     condition (omega (arith, (front_fresh s).0), here))

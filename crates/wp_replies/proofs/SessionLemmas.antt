@@ -16,10 +16,11 @@ use Rattle.wp_replies.specs.Client.{Client, number_of, has_no_room}
 use Rattle.wp_replies.specs.After.{after_reply}
 use Rattle.wp_replies.specs.Kind.{Plain, kind, number_in, number_of_kind, numbers_logged, acknowledged, fresh_in, last_after}
 use Rattle.wp_replies.specs.Progress.{Progress, progress_after}
-use Rattle.wp_replies.specs.Replies.{Evidence, refuses_change, refuses_lock, unless_idle, unless_open, unless_prepared, if_idle, unless_labelled, refuses_label, refusal_of, IsFresh, IsLoggedAt, PreparesAt, CommitsAt, RollsBackAt, Condition, UnlessRefused, Allows, refuses_scan}
+use Rattle.wp_replies.specs.Replies.{Evidence, refuses_change, refuses_lock, unless_idle, unless_open, unless_prepared, if_idle, unless_labelled, refuses_label, refusal_of, IsFresh, IsLoggedAt, PreparesAt, CommitsAt, RollsBackAt, Condition, UnlessRefused, Allows, refuses_scan, refuses_settle}
 use Rattle.wp_replies.specs.Session.{IsSession}
 use Rattle.wp_replies.specs.Laws.{ReadsValue, AreReads, NeverFall, AsksLog, AreAsked, Takes, AreLogged}
-use Rattle.wp_replies.proofs.Conditions.{entry_within, snapshots_after}
+use Rattle.wp_replies.proofs.Conditions.{entry_within, logged_within, snapshots_after}
+use Rattle.wp_replies.proofs.Settles.{settled_fresh, settled_asked}
 
 -- ---- refusals speak of no entry
 
@@ -57,6 +58,10 @@ scan_plain Idle number label = labelled_plain number label
 scan_plain (Open own) number label = refl
 scan_plain (Prepared p) number label = refl
 
+settle_plain : (txn : Txn) (names : List (List ℕ)) → IsPlainIfSome (refuses_settle txn names)
+settle_plain txn [] = refl
+settle_plain txn (name ∷ names) = (idle_plain txn).0
+
 pub refusal_plain : (client : Client) (c : Command) → IsPlainIfSome (refusal_of client c)
 refusal_plain client (command.Put key value) = change_plain client.txn key
 refusal_plain client (command.Del key) = change_plain client.txn key
@@ -73,6 +78,7 @@ refusal_plain client command.Commit = (idle_plain client.txn).3
 refusal_plain client command.Rollback = (idle_plain client.txn).3
 refusal_plain client command.Leave = (idle_plain client.txn).2
 refusal_plain client (command.Take name) = (idle_plain client.txn).0
+refusal_plain client (command.Settle names) = settle_plain client.txn names
 refusal_plain client _ = tt
 
 -- what is true by the row, and where the reply speaks of no entry
@@ -151,7 +157,10 @@ condition_fresh e progress client p (reply.Committed n) command.Commit k = commi
 condition_fresh e progress client p (reply.Committed n) c k = absurd k
 condition_fresh e progress client p (reply.RolledBack n) command.Rollback k = rolls_fresh e.history progress.last client.txn n k
 condition_fresh e progress client p (reply.RolledBack n) c k = absurd k
+condition_fresh e progress client p (reply.Settled n count) (command.Settle names) k = (settled_fresh e.history progress.last names n count (logged_within e.history progress.last) k.1).1
+condition_fresh e progress client p (reply.Settled n count) c k = absurd k
 condition_fresh e progress client p (reply.Unknown other n) (command.Take name) k = k.1
+condition_fresh e progress client p (reply.Unknown other n) (command.Settle names) k = k.2
 condition_fresh e progress client p (reply.Unknown other n) c k = absurd k
 condition_fresh e progress client p (reply.Flushed n versions) command.Flush k = k.0
 condition_fresh e progress client p (reply.Flushed n versions) c k = absurd k
@@ -193,9 +202,9 @@ rolls_asked h last (Prepared p) n (closed, (batch, undone)) = ((_, undone, inr (
 rolls_asked h last _ n l = absurd l
 
 condition_asked : (e : Evidence) (progress : Progress) (client : Client) (p : ℕ) (r : Reply) (c : Command) → Condition e progress client p c r → AreAsked e.history progress.last client.txn c (acknowledged r)
-condition_asked e progress client p (reply.Put n) (command.Put key value) k = ((entry.Write (change.Put key value ∷ []), k.1, subst (λ (t : Txn). AsksLog t (command.Put key value) (entry.Write (change.Put key value ∷ []))) (sym k.0) refl), tt)
+condition_asked e progress client p (reply.Put n) (command.Put key value) k = ((entry.Write (change.Put key value ∷ []), k.1, subst (λ (t : Txn). AsksLog e.history progress.last t (command.Put key value) (entry.Write (change.Put key value ∷ []))) (sym k.0) refl), tt)
 condition_asked e progress client p (reply.Put n) c k = absurd k
-condition_asked e progress client p (reply.Del n) (command.Del key) k = ((entry.Write (change.Del key ∷ []), k.1, subst (λ (t : Txn). AsksLog t (command.Del key) (entry.Write (change.Del key ∷ []))) (sym k.0) refl), tt)
+condition_asked e progress client p (reply.Del n) (command.Del key) k = ((entry.Write (change.Del key ∷ []), k.1, subst (λ (t : Txn). AsksLog e.history progress.last t (command.Del key) (entry.Write (change.Del key ∷ []))) (sym k.0) refl), tt)
 condition_asked e progress client p (reply.Del n) c k = absurd k
 condition_asked e progress client p (reply.Prepared n) command.Prepare k = prepares_asked e.history progress client.txn n k
 condition_asked e progress client p (reply.Prepared n) c k = absurd k
@@ -203,6 +212,8 @@ condition_asked e progress client p (reply.Committed n) command.Commit k = commi
 condition_asked e progress client p (reply.Committed n) c k = absurd k
 condition_asked e progress client p (reply.RolledBack n) command.Rollback k = rolls_asked e.history progress.last client.txn n k
 condition_asked e progress client p (reply.RolledBack n) c k = absurd k
+condition_asked e progress client p (reply.Settled n count) (command.Settle names) k = subst (λ (t : Txn). AreAsked e.history progress.last t (command.Settle names) (acknowledged (reply.Settled n count))) (sym k.0) (settled_asked e.history progress.last names n count (logged_within e.history progress.last) k.1)
+condition_asked e progress client p (reply.Settled n count) c k = absurd k
 condition_asked e progress client p r c k = tt
 
 asked_none : (h : List Entry) (last : ℕ) (txn : Txn) (c : Command) (r : Reply) → kind r ≡ Plain → AreAsked h last txn c (acknowledged r)

@@ -11,7 +11,7 @@ use Rattle.wp_replies.specs.Replies.{Limits}
 -- the store as it was opened, with nothing on the board
 abbrev pub opened_store : Limits → StoredState → Store
 opened_store limits found =
-    record { base = found.edit.segment.base; history = found.history; stopped = false; limit = limits.opened; renewed_limit = limits.renewed; installed = found.edit; halted = false; board = map.empty; locked = [] }
+    record { base = found.edit.segment.base; history = found.history; stopped = false; limit = limits.opened; renewed_limit = limits.renewed; cells = limits.cells; installed = found.edit; halted = false; board = map.empty; locked = [] }
 
 -- Each command is answered as the store is then, and leaves it so to the next; the last one leaves this store, and this client. For each
 -- there is a place, which counts where it is a renewal that puts the log's segment there.

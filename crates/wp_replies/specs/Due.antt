@@ -3,6 +3,7 @@ use Rattle.std.specs.Prelude.{◌≡◌, ◌⊎◌, ℕ, ◌+◌, ◌==◌, Bool
 use Rattle.std.specs.FinMap as map
 use Rattle.wp_model.specs.declared.entry.Entry.{Entry}
 use Rattle.wp_model.specs.declared.version.Version.{Version}
+use Rattle.wp_model.specs.CachePlace.{first_crowded}
 use Rattle.wp_model.specs.Flushed.{InstalledEdit}
 use Rattle.wp_model.specs.History.{named, undecided}
 use Rattle.wp_model.specs.LockState.{Labels}
@@ -12,7 +13,7 @@ use Rattle.wp_text.specs.declared.reply.Reply.{Reply}
 use Rattle.wp_text.specs.declared.reply.Reply.TheVariants as reply
 use Rattle.wp_replies.specs.Txn.{Txn, Open, LockedKeys}
 use Rattle.wp_replies.specs.declared.plan.Plan.{Plan}
-use Rattle.wp_replies.specs.declared.plan.Plan.TheVariants.{Say, Log, RollBack, Flush, Compact, Renew, Tell, Hear}
+use Rattle.wp_replies.specs.declared.plan.Plan.TheVariants.{Say, Log, RollBack, Settle, Flush, Compact, Renew, Tell, Hear}
 use Rattle.wp_replies.specs.Client.{Client, live_of}
 use Rattle.wp_replies.specs.After.{after_reply}
 use Rattle.wp_replies.specs.Kind.{is_logged, is_installed, is_renewed, is_tables_fault, calls_log, stops_log}
@@ -26,6 +27,7 @@ pub record Store : Type 0 where
   pub stopped : Bool  -- the log takes no more
   pub limit : ℕ  -- the greatest number of an entry
   pub renewed_limit : ℕ  -- the same, once the log has been renewed
+  pub cells : ℕ  -- so many words the commit cache has
   pub installed : InstalledEdit  -- the last edit of the tables
   pub halted : Bool  -- the manifest's device or the tables' has failed
   pub board : Labels  -- what was told last under each label
@@ -38,6 +40,15 @@ abbrev pub logged : Store → ℕ → Reply → Reply
 logged store needed answer =
     if store.stopped then reply.Stopped (length store.history)
     else (if nat_lt store.limit (length store.history + needed) then reply.Full (length store.history) store.limit else answer)
+
+-- two prepares that are to be settled have one place in the commit cache
+abbrev pub unless_crowded : Option (ℕ × ℕ) → Reply → Reply
+unless_crowded None answer = answer
+unless_crowded (Some pair) answer = reply.Crowded pair.0 pair.1
+
+-- the prepares with these numbers are settled
+abbrev pub settled : Store → List ℕ → Reply
+settled store numbers = unless_crowded (first_crowded store.cells numbers) (logged store (length numbers) (reply.Settled (length store.history + length numbers) (length numbers)))
 
 -- the tables take an edit, or none any more
 abbrev pub unless_halted : Store → Reply → Reply
@@ -73,6 +84,7 @@ abbrev pub reply_to : Store → Client → Plan → Reply
 reply_to store client (Say answer) = answer
 reply_to store client (Log entry answer) = logged store (length (asked_of (Log entry answer))) answer
 reply_to store client (RollBack p batch answer) = logged store (length (asked_of (RollBack p batch answer))) answer
+reply_to store client (Settle numbers) = settled store numbers
 reply_to store client Flush = unless_halted store (flushed (length store.history) (unflushed store.history store.installed))
 reply_to store client Compact = unless_halted store (compacted store (live_of client))
 reply_to store client Renew = unless_halted store (renewed store)

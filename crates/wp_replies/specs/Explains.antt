@@ -83,7 +83,7 @@ pub record Explains (limits : Limits) (faults : Faults) (script run : List Part)
   pub legal : IsLegal left.history
   pub begins : (added : List Entry) × (left.history ≡ found.history ++ added)
   pub answered : AreSessions left limits failed found [] script run sessions
-  -- each entry after the opening history is that of exactly one reply, an Undo together with its Close
+  -- each entry after the opening history is that of exactly one reply, an Undo together with its Close, and the Commits of a `settled` together
   pub paired : (n : ℕ) → length found.history < n → n ≤ length left.history → count_by (λ m. m == n) (flat_map acknowledged (all_replies sessions)) ≡ 1
   pub log_failed : count_by is_fault (all_replies sessions) ≡ faults.log
   pub log_stopped : count_by is_stop (all_exchanges run sessions) ≡ faults.log + faults.renewals

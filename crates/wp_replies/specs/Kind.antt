@@ -23,6 +23,7 @@ kind (reply.Del n) = Logged n 1
 kind (reply.Prepared n) = Logged n 1
 kind (reply.Committed n) = Logged n 1
 kind (reply.RolledBack n) = Logged n 2
+kind (reply.Settled last count) = Logged last count
 kind (reply.Got value n) = Published n
 kind (reply.Missing n) = Published n
 kind (reply.Rows pairs n) = Published n

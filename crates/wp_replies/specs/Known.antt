@@ -1,6 +1,6 @@
 -- What is known of the others: what one history says, and what all clients were answered.
 use Rattle.std.specs.Prelude.{ℕ, ◌==◌, ◌&&◌, ◌||◌, Bool, true, false, not, nat_le, List, [], ◌∷◌, length, Option, Some, None}
-use Rattle.std.specs.List.{filter, flat_map, list_any}
+use Rattle.std.specs.List.{filter, flat_map, list_any, take_while}
 use Rattle.std.specs.Str.{bytes_eq}
 use Rattle.wp_model.specs.declared.entry.Entry.{Entry}
 use Rattle.wp_model.specs.Flushed.{InstalledEdit}
@@ -60,16 +60,27 @@ comes_to is_such client (first ∷ commands) (answer ∷ answers) = is_such clie
 abbrev pub one_comes_to : (Txn → Command → Option Reply → Bool) → List Dialogue → Bool
 one_comes_to is_such dialogues = list_any (λ d. comes_to is_such new_client d.part.commands d.answers) dialogues
 
--- it was answered `begun` or `took` for the name
-abbrev pub gets_name : List ℕ → Txn → Command → Option Reply → Bool
-gets_name name txn (command.Begin other) (Some reply.Begun) = bytes_eq other name
-gets_name name txn (command.Take other) (Some reply.Took) = bytes_eq other name
-gets_name name txn command answer = false
+-- the names before this one
+abbrev pub names_before : List ℕ → List (List ℕ) → List (List ℕ)
+names_before name names = take_while (λ other. not (bytes_eq other name)) names
 
--- it was answered `took` for the name
+-- The names that an idle client took to settle them: all, or those before the one that it was refused. Where memory was wanting, it may
+-- have taken all.
+abbrev pub names_taken : List (List ℕ) → Option Reply → List (List ℕ)
+names_taken names (Some (reply.Unknown name n)) = names_before name names
+names_taken names (Some (reply.InUse name)) = names_before name names
+names_taken names answer = names
+
+-- it was answered `took` for the name, or took it to settle it
 abbrev pub takes_name : List ℕ → Txn → Command → Option Reply → Bool
 takes_name name txn (command.Take other) (Some reply.Took) = bytes_eq other name
+takes_name name Idle (command.Settle names) answer = list_any (λ other. bytes_eq other name) (names_taken names answer)
 takes_name name txn command answer = false
+
+-- likewise, or it was answered `begun` for it
+abbrev pub gets_name : List ℕ → Txn → Command → Option Reply → Bool
+gets_name name txn (command.Begin other) (Some reply.Begun) = bytes_eq other name
+gets_name name txn command answer = takes_name name txn command answer
 
 -- it puts or deletes the key
 abbrev pub asks_change : List ℕ → Command → Bool

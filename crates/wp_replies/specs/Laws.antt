@@ -1,6 +1,6 @@
 -- What is true of every session.
 use Rattle.std.specs.Prelude.{◌≡◌, ◌⊎◌, ℕ, ◌≤◌, Bool, true, List, [], ◌∷◌, ◌++◌, length, Some, None, IfSome}
-use Rattle.std.specs.List.{AllByRecursion}
+use Rattle.std.specs.List.{AllByRecursion, Contains}
 use Rattle.wp_model.specs.declared.change.Change.{Change}
 use Rattle.wp_model.specs.declared.change.Change.TheVariants as change
 use Rattle.wp_model.specs.declared.entry.Entry.{Entry}
@@ -17,7 +17,7 @@ use Rattle.wp_replies.specs.Client.{Client, new_client, number_of}
 use Rattle.wp_replies.specs.After.{labels_after, after_reply}
 use Rattle.wp_replies.specs.Kind.{acknowledged, fresh_in, last_after}
 use Rattle.wp_replies.specs.Progress.{Progress}
-use Rattle.wp_replies.specs.Replies.{Claim, Evidence, IsKnown, IsFresh, IsLoggedAt, WasUndecided, Condition}
+use Rattle.wp_replies.specs.Replies.{Claim, Evidence, IsKnown, IsFresh, IsLoggedAt, WasUndecided, CommitsNamed, Condition}
 use Rattle.wp_replies.specs.Alike.{IsLike, IsFrom}
 use Rattle.wp_replies.specs.Moments.{AreDueFrom}
 use Rattle.wp_replies.specs.Session.{IsSession}
@@ -95,19 +95,20 @@ FreshNumbersNeverFall = (evidence : Evidence) (progress : Progress) (client : Cl
 -- ---- entries
 
 -- the command asks the log for the entry
-abbrev pub AsksLog : Txn → Command → Entry → Type 0
-AsksLog Idle (command.Put key value) e = e ≡ entry.Write (change.Put key value ∷ [])
-AsksLog Idle (command.Del key) e = e ≡ entry.Write (change.Del key ∷ [])
-AsksLog (Open own) command.Prepare e = e ≡ entry.Prepare own.name own.batch
-AsksLog (Open own) command.Commit e = e ≡ entry.Write own.batch
-AsksLog (Prepared p) command.Commit e = e ≡ entry.Commit p
-AsksLog (Prepared p) command.Rollback e = (e ≡ entry.Close p) ⊎ ((batch : List Change) × (e ≡ entry.Undo p batch))
-AsksLog txn command e = ⊥
+abbrev pub AsksLog : List Entry → (last : ℕ) → Txn → Command → Entry → Type 0
+AsksLog history last Idle (command.Put key value) e = e ≡ entry.Write (change.Put key value ∷ [])
+AsksLog history last Idle (command.Del key) e = e ≡ entry.Write (change.Del key ∷ [])
+AsksLog history last Idle (command.Settle names) e = (name : List ℕ) × Contains names name × CommitsNamed history last name e
+AsksLog history last (Open own) command.Prepare e = e ≡ entry.Prepare own.name own.batch
+AsksLog history last (Open own) command.Commit e = e ≡ entry.Write own.batch
+AsksLog history last (Prepared p) command.Commit e = e ≡ entry.Commit p
+AsksLog history last (Prepared p) command.Rollback e = (e ≡ entry.Close p) ⊎ ((batch : List Change) × (e ≡ entry.Undo p batch))
+AsksLog history last txn command e = ⊥
 
 -- each number is past all that the client has seen, and is that of an entry that the command asks for
 abbrev pub AreAsked : List Entry → ℕ → Txn → Command → List ℕ → Type 0
 AreAsked history last txn command [] = Unit {0}
-AreAsked history last txn command (n ∷ numbers) = ((e : Entry) × IsLoggedAt history last n e × AsksLog txn command e) × AreAsked history last txn command numbers
+AreAsked history last txn command (n ∷ numbers) = ((e : Entry) × IsLoggedAt history last n e × AsksLog history last txn command e) × AreAsked history last txn command numbers
 
 -- `took` gives the prepare with the number p, which has that name and was undecided
 abbrev pub Takes : List Entry → ℕ → ℕ → Command → Reply → Type 0

@@ -32,7 +32,7 @@ pub record Devices : Type 0 where
 -- the store when so many entries of the history were published
 abbrev pub store_at : Evidence → Devices → ℕ → Store
 store_at evidence devices at =
-    record { base = evidence.base; history = take at evidence.history; stopped = devices.stopped; limit = devices.limit; renewed_limit = evidence.limits.renewed; installed = devices.installed; halted = devices.halted; board = devices.board; locked = devices.locked }
+    record { base = evidence.base; history = take at evidence.history; stopped = devices.stopped; limit = devices.limit; renewed_limit = evidence.limits.renewed; cells = evidence.limits.cells; installed = devices.installed; halted = devices.halted; board = devices.board; locked = devices.locked }
 
 -- These entries are a legal history that can be cut at the base. The edit's base is no earlier, and its tables have versions of the
 -- history, in order, which show a reader at the base what the store had there.

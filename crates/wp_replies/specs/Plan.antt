@@ -1,6 +1,6 @@
 -- What a command comes to where nobody else changes the store: exactly one reply, or the entries that the log is asked to
 -- take and the reply that acknowledges them, or a change of the tables, or the board.
-use Rattle.std.specs.Prelude.{ℕ, ◌+◌, ◌&&◌, Bool, List, [], ◌∷◌, length, Option, Some, None, unwrap_or, if◌then◌else◌}
+use Rattle.std.specs.Prelude.{ℕ, ◌+◌, ◌&&◌, Bool, List, [], ◌∷◌, length, map, Option, Some, None, unwrap_or, if◌then◌else◌}
 use Rattle.std.specs.List.{find}
 use Rattle.std.specs.Option.{option_map, option_or}
 use Rattle.wp_model.specs.declared.change.Change.{Change}
@@ -21,9 +21,9 @@ use Rattle.wp_text.specs.declared.reply.Reply.TheVariants as reply
 use Rattle.wp_replies.specs.declared.client.LabelledSnapshot.{LabelledSnapshot}
 use Rattle.wp_replies.specs.Txn.{Txn, Staged, Idle, Open, Prepared, is_its_key, LockedKeys}
 use Rattle.wp_replies.specs.declared.plan.Plan.{Plan}
-use Rattle.wp_replies.specs.declared.plan.Plan.TheVariants.{Say, Log, RollBack, Flush, Compact, Renew, Tell, Hear}
+use Rattle.wp_replies.specs.declared.plan.Plan.TheVariants.{Say, Log, RollBack, Settle, Flush, Compact, Renew, Tell, Hear}
 use Rattle.wp_replies.specs.Client.{Client, own_batch, number_of}
-use Rattle.wp_replies.specs.Replies.{refuses_change, refuses_lock, unless_idle, unless_open, unless_prepared, unless_labelled, refuses_label}
+use Rattle.wp_replies.specs.Replies.{refuses_change, refuses_lock, unless_idle, unless_open, unless_prepared, unless_labelled, refuses_label, refuses_settle}
 
 -- the number of the next entry
 abbrev pub next : List Entry → ℕ
@@ -169,6 +169,23 @@ leave_plan txn = refused_or (unless_prepared txn) (Say reply.Left)
 abbrev pub take_plan : List Entry → Txn → List ℕ → Plan
 take_plan history txn name = refused_or (unless_idle txn) (Say (take_reply history (named history name) name))
 
+-- one more prepare is settled with those of a plan
+abbrev pub settling : ℕ → Plan → Plan
+settling p (Settle numbers) = Settle (p ∷ numbers)
+settling p other = other
+
+-- the undecided prepares of these names are settled, or the first name is told that has none
+abbrev pub with_named : List Entry → Option ℕ → List ℕ → Plan → Plan
+with_named history None name plan = Say (reply.Unknown name (length history))
+with_named history (Some p) name plan = settling p plan
+
+abbrev pub settle_names : List Entry → List (List ℕ) → Plan
+settle_names history [] = Settle []
+settle_names history (name ∷ names) = with_named history (named history name) name (settle_names history names)
+
+abbrev pub settle_plan : List Entry → Txn → List (List ℕ) → Plan
+settle_plan history txn names = refused_or (refuses_settle txn names) (settle_names history names)
+
 -- ---- all commands
 
 abbrev pub plan : List Entry → List LockedKeys → Client → Command → Plan
@@ -188,14 +205,20 @@ plan history locked client command.Commit = commit_plan history client.txn
 plan history locked client command.Rollback = rollback_plan history client.txn
 plan history locked client command.Leave = leave_plan client.txn
 plan history locked client (command.Take name) = take_plan history client.txn name
+plan history locked client (command.Settle names) = settle_plan history client.txn names
 plan history locked client command.Flush = Flush
 plan history locked client command.Compact = Compact
 plan history locked client command.Renew = Renew
 plan history locked client (command.Tell label) = Tell label
 plan history locked client (command.Hear label) = Hear label
 
+-- the Commits of the prepares with these numbers
+abbrev pub commits_of : List ℕ → List Entry
+commits_of numbers = map (λ p. entry.Commit p) numbers
+
 -- the entries that it asks the log to take, as one record
 abbrev pub asked_of : Plan → List Entry
 asked_of (Log entry answer) = entry ∷ []
 asked_of (RollBack p batch answer) = entry.Undo p batch ∷ entry.Close p ∷ []
+asked_of (Settle numbers) = commits_of numbers
 asked_of other = []

@@ -1,7 +1,7 @@
 -- The table of replies: each reply is given only where its row says so, over a history, with what is known of the other
 -- clients. Each row stays true as the history grows, where what was known of the others is known still.
-use Rattle.std.specs.Prelude.{◌≡◌, ◌⊎◌, ℕ, ◌+◌, ◌-◌, ◌<◌, ◌≤◌, ◌==◌, Bool, true, false, nat_le, List, [], ◌∷◌, length, take, Option, Some, None, is_some, IfSome, if◌then◌else◌}
-use Rattle.std.specs.List.{AllByRecursion, list_any}
+use Rattle.std.specs.Prelude.{◌≡◌, ◌⊎◌, ℕ, ◌+◌, ◌-◌, ◌<◌, ◌≤◌, ◌==◌, Bool, true, false, nat_le, List, [], ◌∷◌, ◌++◌, length, take, Option, Some, None, is_some, IfSome, suc, if◌then◌else◌}
+use Rattle.std.specs.List.{AllByRecursion, AllZip, list_any}
 use Rattle.wp_model.specs.declared.change.Change.{Change}
 use Rattle.wp_model.specs.declared.change.Change.TheVariants as change
 use Rattle.wp_model.specs.declared.entry.Entry.{Entry}
@@ -9,6 +9,7 @@ use Rattle.wp_model.specs.declared.entry.Entry.TheVariants as entry
 use Rattle.wp_model.specs.declared.holder.Holder.{Holder}
 use Rattle.wp_model.specs.declared.holder.Holder.TheVariants as holder
 use Rattle.wp_model.specs.Batch.{change_to}
+use Rattle.wp_model.specs.CachePlace.{IsFirstCrowded}
 use Rattle.wp_model.specs.Flushed.{InstalledEdit, later_versions}
 use Rattle.wp_model.specs.Changed.{conflict, IsUnchanged}
 use Rattle.wp_model.specs.History.{entry_at, name_at, batch_at, is_undecided, undecided, is_changed, named, value_at}
@@ -31,8 +32,8 @@ use Rattle.wp_replies.specs.Tables.{unflushed, after_flush, listed, after_compac
 
 -- what a row may say of the other clients, of the log and of the tables
 pub data Claim : Type 0 where
-  HasName : List ℕ → Claim  -- another client was answered `begun` or `took` for the name
-  HasTaken : List ℕ → Claim  -- another client was answered `took` for the name
+  HasName : List ℕ → Claim  -- another client was answered `begun` or `took` for the name, or took it to settle it
+  HasTaken : List ℕ → Claim  -- another client was answered `took` for the name, or took it to settle it
   HasKey : List ℕ → List ℕ → Claim  -- another client came to lock the key for its open transaction of this name
   WasLocked : List ℕ → List ℕ → Claim  -- a client came to lock the key for its open transaction of this name
   WritesKey : List ℕ → List ℕ → Claim  -- another client, of this name, came to write the key at once
@@ -49,10 +50,11 @@ pub record Untaken : Type 0 where
   pub entries : List Entry  -- of one record, for the log
   pub edit : Option InstalledEdit  -- for the manifest's device and the tables'; none where one failed before the manifest was called
 
--- the greatest number that an entry may have: a log in the first version of its format has room for less
+-- what bounds which entries the log takes
 pub record Limits : Type 0 where
-  pub opened : ℕ  -- in the log as it was opened
-  pub renewed : ℕ  -- once it has been renewed
+  pub opened : ℕ  -- the greatest number of an entry in the log as it was opened: the first version of its format has room for less
+  pub renewed : ℕ  -- the same, once it has been renewed
+  pub cells : ℕ  -- so many words the commit cache has: no two transactions that are settled at once have one place there
 
 -- what a reply is judged by
 pub record Evidence : Type 0 where
@@ -108,6 +110,11 @@ abbrev pub refuses_scan : Txn → Option ℕ → List ℕ → Option Reply
 refuses_scan Idle number label = unless_labelled number label
 refuses_scan other number label = Some reply.State
 
+-- nor has a settle, which is of one name at least
+abbrev pub refuses_settle : Txn → List (List ℕ) → Option Reply
+refuses_settle txn [] = Some reply.State
+refuses_settle txn (name ∷ names) = unless_idle txn
+
 abbrev pub refusal_of : Client → Command → Option Reply
 refusal_of client (command.Put key value) = refuses_change client.txn key
 refusal_of client (command.Del key) = refuses_change client.txn key
@@ -125,6 +132,7 @@ refusal_of client command.Commit = if_idle client.txn
 refusal_of client command.Rollback = if_idle client.txn
 refusal_of client command.Leave = unless_prepared client.txn
 refusal_of client (command.Take name) = unless_idle client.txn
+refusal_of client (command.Settle names) = refuses_settle client.txn names
 refusal_of client command.Flush = None
 refusal_of client command.Compact = None
 refusal_of client command.Renew = None
@@ -200,6 +208,7 @@ IsSnapshot history client label n = (number_of client.snapshots label ≡ Some n
 abbrev pub needed : Txn → Command → ℕ
 needed Idle (command.Put key value) = 1
 needed Idle (command.Del key) = 1
+needed Idle (command.Settle names) = length names
 needed (Open own) command.Prepare = 1
 needed (Open own) command.Commit = 1
 needed (Prepared p) command.Commit = 1
@@ -210,16 +219,21 @@ needed txn other = 0
 abbrev pub IsOfLog : Txn → Command → Type 0
 IsOfLog txn command = (1 ≤ needed txn command) ⊎ (is_renewal command ≡ true)
 
+-- the entry is the Commit of a prepare of that name, which was undecided
+abbrev pub CommitsNamed : List Entry → ℕ → List ℕ → Entry → Type 0
+CommitsNamed history last name e = (p : ℕ) × (e ≡ entry.Commit p) × WasUndecided history last name p
+
 -- The entries that the command asks the log for, as one record. A renewal asks it for none.
-abbrev pub AsksFor : Txn → Command → List Entry → Type 0
-AsksFor Idle (command.Put key value) entries = entries ≡ entry.Write (change.Put key value ∷ []) ∷ []
-AsksFor Idle (command.Del key) entries = entries ≡ entry.Write (change.Del key ∷ []) ∷ []
-AsksFor (Open own) command.Prepare entries = entries ≡ entry.Prepare own.name own.batch ∷ []
-AsksFor (Open own) command.Commit entries = entries ≡ entry.Write own.batch ∷ []
-AsksFor (Prepared p) command.Commit entries = entries ≡ entry.Commit p ∷ []
-AsksFor (Prepared p) command.Rollback entries = (batch : List Change) × (entries ≡ entry.Undo p batch ∷ entry.Close p ∷ [])
-AsksFor txn command.Renew entries = entries ≡ []
-AsksFor txn other entries = ⊥
+abbrev pub AsksFor : List Entry → (last : ℕ) → Txn → Command → List Entry → Type 0
+AsksFor history last Idle (command.Put key value) entries = entries ≡ entry.Write (change.Put key value ∷ []) ∷ []
+AsksFor history last Idle (command.Del key) entries = entries ≡ entry.Write (change.Del key ∷ []) ∷ []
+AsksFor history last Idle (command.Settle names) entries = AllZip (CommitsNamed history last) names entries
+AsksFor history last (Open own) command.Prepare entries = entries ≡ entry.Prepare own.name own.batch ∷ []
+AsksFor history last (Open own) command.Commit entries = entries ≡ entry.Write own.batch ∷ []
+AsksFor history last (Prepared p) command.Commit entries = entries ≡ entry.Commit p ∷ []
+AsksFor history last (Prepared p) command.Rollback entries = (batch : List Change) × (entries ≡ entry.Undo p batch ∷ entry.Close p ∷ [])
+AsksFor history last txn command.Renew entries = entries ≡ []
+AsksFor history last txn other entries = ⊥
 
 -- ---- the log
 
@@ -303,6 +317,44 @@ abbrev pub RollsBackAt : List Entry → ℕ → Txn → ℕ → Type 0
 RollsBackAt history last (Prepared p) n = IsLoggedAt history last n (entry.Close p) × ((batch : List Change) × IsLoggedAt history last (n - 1) (entry.Undo p batch))
 RollsBackAt history last other n = ⊥
 
+-- ---- several transactions at once
+
+-- Each name is that of an undecided prepare, which has the number in its place.
+abbrev pub AreNamed : List Entry → List (List ℕ) → (numbers : List ℕ) → Type 0
+AreNamed history names numbers = AllZip (λ name p. named history name ≡ Some p) names numbers
+
+-- The entries behind the first n are the Commits of these prepares, in order, later than all that the client has seen.
+abbrev pub AreCommitted : List Entry → (last n : ℕ) → (numbers : List ℕ) → Type 0
+AreCommitted history last n [] = Unit {0}
+AreCommitted history last n (p ∷ numbers) = IsLoggedAt history last (suc n) (entry.Commit p) × AreCommitted history last (suc n) numbers
+
+-- The names were those of undecided prepares when so many entries were published, and the entries behind these, as many as the names,
+-- commit them in order. The last one has the number n.
+pub record SettlesAll (history : List Entry) (last : ℕ) (names : List (List ℕ)) (n count : ℕ) : Type 0 where
+  pub all : count ≡ length names
+  pub some : 1 ≤ count
+  pub published : ℕ
+  pub behind : n ≡ published + count
+  pub numbers : List ℕ
+  pub named : AreNamed (take published history) names numbers
+  pub committed : AreCommitted history last published numbers
+
+-- The names were those of undecided prepares when so many entries were published, and the client had seen nothing later; of these two
+-- had one place in the commit cache, and this is the first such pair.
+pub record AreCrowded (evidence : Evidence) (last : ℕ) (names : List (List ℕ)) (p q : ℕ) : Type 0 where
+  pub at : ℕ
+  pub fresh : IsFresh evidence.history last at
+  pub numbers : List ℕ
+  pub named : AreNamed (take at evidence.history) names numbers
+  pub crowded : IsFirstCrowded evidence.limits.cells numbers p q
+
+-- The name is one of these, and each before it was that of an undecided prepare.
+pub record IsFirstRefused (history : List Entry) (last : ℕ) (names : List (List ℕ)) (name : List ℕ) : Type 0 where
+  pub before : List (List ℕ)
+  pub after : List (List ℕ)
+  pub place : names ≡ before ++ name ∷ after
+  pub undecided : AllByRecursion (λ other. (p : ℕ) × WasUndecided history last other p) before
+
 -- ---- tables
 
 -- So many versions are numbered above a number that was the flushed one, and up to n.
@@ -360,7 +412,7 @@ IsHaltedAt evidence flushed = (flushed ≡ evidence.installed.flushed) × IsKnow
 -- `freed`, `begun`, `dropped` and `left` the client's state alone decides.
 abbrev pub Condition : Evidence → Progress → Client → ℕ → Command → Reply → Type 0
 Condition evidence progress client p command (reply.Full published most) = (1 ≤ needed client.txn command) × IsFresh evidence.history progress.last published × IsLimit evidence progress published most × (most < published + needed client.txn command)
-Condition evidence progress client p command reply.FaultLog = AsksFor client.txn command evidence.failed.entries × RenewsSomething evidence command
+Condition evidence progress client p command reply.FaultLog = AsksFor evidence.history progress.last client.txn command evidence.failed.entries × RenewsSomething evidence command
 Condition evidence progress client p command (reply.Stopped n) = IsOfLog client.txn command × IsFresh evidence.history progress.last n × IsKnown evidence (LogStopped n)
 Condition evidence progress client p (command.Put key value) (reply.Put n) = (client.txn ≡ Idle) × IsLoggedAt evidence.history progress.last n (entry.Write (change.Put key value ∷ []))
 Condition evidence progress client p (command.Put key value) reply.Held = TxnIsOpen client.txn
@@ -397,6 +449,10 @@ Condition evidence progress client p command.Leave reply.Left = Unit {0}
 Condition evidence progress client p (command.Take name) reply.Took = WasUndecided evidence.history progress.last name p
 Condition evidence progress client p (command.Take name) (reply.Unknown other n) = (other ≡ name) × IsFresh evidence.history progress.last n × (named (take n evidence.history) name ≡ None)
 Condition evidence progress client p (command.Take name) (reply.InUse other) = (other ≡ name) × IsKnown evidence (HasName name)
+Condition evidence progress client p (command.Settle names) (reply.Settled n count) = (client.txn ≡ Idle) × SettlesAll evidence.history progress.last names n count
+Condition evidence progress client p (command.Settle names) (reply.Crowded first second) = (client.txn ≡ Idle) × AreCrowded evidence progress.last names first second
+Condition evidence progress client p (command.Settle names) (reply.Unknown name n) = (client.txn ≡ Idle) × IsFirstRefused evidence.history progress.last names name × IsFresh evidence.history progress.last n × (named (take n evidence.history) name ≡ None)
+Condition evidence progress client p (command.Settle names) (reply.InUse name) = (client.txn ≡ Idle) × IsFirstRefused evidence.history progress.last names name × IsKnown evidence (HasName name)
 Condition evidence progress client p command.Flush (reply.Flushed n versions) = IsFresh evidence.history progress.last n × (1 ≤ versions) × IsFlushCount evidence n versions
 Condition evidence progress client p command.Flush reply.Nothing = HasNothingToFlush evidence progress.last
 Condition evidence progress client p command.Flush (reply.Halted flushed) = IsHaltedAt evidence flushed

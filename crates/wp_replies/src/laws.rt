@@ -33,7 +33,7 @@ pub fn fresh_numbers_never_fall()
 
 /// Each number that a reply acknowledges is that of an entry of the history, which the command asked for, and which is
 /// later than all that the client had seen. A decision is of the prepare whose number the client was answered, or of one
-/// that it took, which had the name that it gave and was undecided.
+/// that it took, to settle it or before, which had the name that it gave and was undecided.
 pub fn acknowledged_are_logged()
     ensures { AcknowledgedAreLogged }
 {}

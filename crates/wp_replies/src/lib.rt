@@ -6,7 +6,7 @@
 //! it, and `specs/Due.antt` what the reply leaves. The laws tie the exact replies to the table, and say what follows from the
 //! table for reads and for acknowledged entries.
 //!
-//! It has definitions and laws alone: `LabelledSnapshot` and `Plan` stand in clauses, and nothing makes one.
+//! It has definitions and laws alone: `LabelledSnapshot`, `Numbers` and `Plan` stand in clauses, and nothing makes one.
 #![tactic(auto)]
 
 mod client;
@@ -14,4 +14,4 @@ pub mod laws;
 mod plan;
 
 pub use client::{LabelledSnapshot, MOST_SNAPSHOTS};
-pub use plan::Plan;
+pub use plan::{Numbers, Plan};

@@ -1,5 +1,19 @@
+use std::marker::Model;
 use wp_model::{Batch, Entry, Name, Seq};
 use wp_text::Reply;
+
+/// Numbers of prepares.
+pub struct Numbers {
+    items: Vec<Seq>,
+}
+
+impl Model for Numbers {
+    ghost use Rattle.std.specs.Prelude.{ℕ, List};
+
+    ghost Value = { List ℕ };
+
+    ghost view = { λ n. n.items.items };
+}
 
 /// What a command comes to.
 pub enum Plan {
@@ -10,6 +24,8 @@ pub enum Plan {
     /// The log is asked to take the Undo of the prepare with this number, which has this batch, and its Close. The reply
     /// has the number of the Close.
     RollBack(Seq, Batch, Reply),
+    /// The log is asked to take the Commits of the prepares with these numbers, unless two of them have one place in the commit cache.
+    Settle(Numbers),
     /// The versions that stand in memory are to be in one table more, where the tables take an edit.
     Flush,
     /// All tables are to be one, where the tables take an edit.

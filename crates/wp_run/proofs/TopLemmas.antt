@@ -71,14 +71,15 @@ module _ {D : Type 0} (z : SharedState D) (s : Serving) (answered : List Answere
       }
 
   abbrev limits : Limits
-  limits = record { opened = opened_limit z; renewed = renewed_limit z }
+  limits = record { opened = opened_limit z; renewed = renewed_limit z; cells = z.cells }
 
-  are_limits : AreLimits s.choice.store.limit (found_in run.ended).edit.segment.place s.disks.log.before limits
+  are_limits : AreLimits s.choice.store.limit s.choice.store.bits (found_in run.ended).edit.segment.place s.disks.log.before limits
   are_limits = record {
     format = opened.wal.format;
     found = subst (λ (e : InstalledEdit). IfKnown s.disks.log.before (λ m. IsInVersion opened.wal.format e.segment.place m.reads)) (sym same_edit) opened.parts.opened.version;
     opened = ap (least_opened z.limit) opened.log_is ∙ ap (λ (n : ℕ). min n (last_number opened.wal.format)) limit;
     renewed = (let same : min z.limit (last_number Two) ≡ s.choice.store.limit = omega (arith, limit, low) in same);
+    cells = cells;
   }
 
   abbrev replies : List (List Reply)

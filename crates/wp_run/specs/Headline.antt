@@ -46,9 +46,10 @@ pub record Headline (s : Serving) (faults : Faults) (run : List Part) : Type 0 w
   pub failed : Untaken  -- the record, or the edit, that a device failed to take
   pub replies : List (List Reply)
   pub limits : Limits
-  pub limits_are : AreLimits s.choice.store.limit found.edit.segment.place s.disks.log.before limits
+  pub limits_are : AreLimits s.choice.store.limit s.choice.store.bits found.edit.segment.place s.disks.log.before limits
   pub sessions : AreSessions left limits failed found [] s.script run replies
-  -- Each new entry is acknowledged by exactly one reply, an Undo together with its Close. No number of one is above the limit.
+  -- Each new entry is acknowledged by exactly one reply, an Undo together with its Close, and Commits that were settled together. No
+  -- number of one is above the limit.
   pub once : (n : ℕ) → length found.history < n → n ≤ length left.history → count_by (λ m. m == n) (flat_map acknowledged (all_replies replies)) ≡ 1
   pub within : (n : ℕ) → length found.history < n → n ≤ length left.history → n ≤ s.choice.store.limit
   -- Whatever a crash leaves of the three devices then opens to the history that is left and to its last edit. Where the log failed,

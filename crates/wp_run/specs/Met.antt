@@ -21,7 +21,8 @@ use Rattle.wp_wal.specs.Wal.{LeavesCutOrNext, LosesNothingAt}
 use Rattle.wp_status.specs.Use.{DisksUse}
 
 -- The machine reaches a world that was opened with just the history and the last edit that were found, and that has so many words
--- in its commit cache. The proof of a run takes it from the store that was opened. No reply depends on that number.
+-- in its commit cache. The proof of a run takes it from the store that was opened. No reply but `crowded` depends on that
+-- number.
 pub record SharesWords (cells : ℕ) (found : StoredState) : Type 0 where
   pub world : World
   pub reached : Reaches world

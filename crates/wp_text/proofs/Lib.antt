@@ -1,3 +1,4 @@
+pub mod NamesLemmas
 pub mod StatementLaws
 pub mod LineLaws
 pub mod Placing

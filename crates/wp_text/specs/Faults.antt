@@ -11,18 +11,18 @@ use Rattle.wp_text.specs.declared.line.Statement.TheVariants as statement
 use Rattle.wp_text.specs.declared.script.Part.{Part}
 use Rattle.wp_text.specs.declared.line.TheConstants.{MOST_LINE_BYTES}
 use Rattle.wp_text.specs.declared.read.TheConstants.{MOST_BYTES, MOST_CLIENTS}
-use Rattle.wp_text.specs.Grammar.{lines_of, is_line_byte, IsText, words_of, is_passed_over, statement_words, is_in_range, Means, clients, Spell, IsScript}
+use Rattle.wp_text.specs.Grammar.{lines_of, is_line_byte, IsText, words_of, is_passed_over, IsWrittenWith, is_in_range, Means, clients, Spell, IsScript}
 
 -- ---- a line by itself
 
 -- no statement is written with these words, whatever its keys, values and names
 abbrev pub IsNoStatement : List (List ℕ) → Type 0
-IsNoStatement words = (statement : Statement) → words ≡ statement_words statement → ⊥
+IsNoStatement words = (statement : Statement) → IsWrittenWith statement words → ⊥
 
 -- a statement is written with these words, but one of its keys, values and names is out of range
 pub record IsOutOfRange (words : List (List ℕ)) : Type 0 where
   pub statement : Statement
-  pub written : words ≡ statement_words statement
+  pub written : IsWrittenWith statement words
   pub range : is_in_range statement ≡ false
 
 -- what is wrong with the words of a line

@@ -9,6 +9,7 @@ use Rattle.wp_text.specs.declared.script.Command.TheVariants as command
 use Rattle.wp_text.specs.declared.script.Part.{Part}
 use Rattle.wp_text.specs.declared.line.TheConstants.{MOST_LINE_BYTES}
 use Rattle.wp_text.specs.declared.read.TheConstants.{MOST_BYTES, MOST_CLIENTS}
+use Rattle.wp_text.specs.Names.{may_be_settled}
 
 -- The lines of a script, without their ends. What follows the last end is a line too: where it is empty, it
 -- says nothing.
@@ -53,6 +54,7 @@ command_words command.Commit = codes "commit" ∷ []
 command_words command.Rollback = codes "rollback" ∷ []
 command_words command.Leave = codes "leave" ∷ []
 command_words (command.Take name) = codes "take" ∷ name ∷ []
+command_words (command.Settle names) = codes "settle" ∷ names
 command_words command.Flush = codes "flush" ∷ []
 command_words command.Compact = codes "compact" ∷ []
 command_words command.Renew = codes "renew" ∷ []
@@ -63,6 +65,15 @@ command_words (command.Hear name) = codes "hear" ∷ name ∷ []
 abbrev pub statement_words : Statement → List (List ℕ)
 statement_words (statement.Client name) = codes "client" ∷ name ∷ []
 statement_words (statement.Command command) = command_words command
+
+-- the statement has as many words as it may have
+abbrev pub is_formed : Statement → Bool
+is_formed (statement.Command (command.Settle names)) = may_be_settled names
+is_formed other = true
+
+-- the statement is written with these words
+abbrev pub IsWrittenWith : Statement → List (List ℕ) → Type 0
+IsWrittenWith statement words = (words ≡ statement_words statement) × (is_formed statement ≡ true)
 
 -- the keys, values and names of a command are in range
 abbrev pub is_command_in_range : Command → Bool
@@ -82,6 +93,7 @@ is_command_in_range command.Commit = true
 is_command_in_range command.Rollback = true
 is_command_in_range command.Leave = true
 is_command_in_range (command.Take name) = is_name name
+is_command_in_range (command.Settle names) = list_all is_name names
 is_command_in_range command.Flush = true
 is_command_in_range command.Compact = true
 is_command_in_range command.Renew = true
@@ -95,7 +107,7 @@ is_in_range (statement.Command command) = is_command_in_range command
 -- What words say: nothing where their line is passed over, else the statement that is written with them.
 abbrev pub Say : List (List ℕ) → Option Statement → Type 0
 Say words None = is_passed_over words ≡ true
-Say words (Some statement) = (words ≡ statement_words statement) × (is_in_range statement ≡ true)
+Say words (Some statement) = IsWrittenWith statement words × (is_in_range statement ≡ true)
 
 -- The line is a text whose words say this.
 pub record Means (line : List ℕ) (meaning : Option Statement) : Type 0 where

@@ -4,7 +4,7 @@ use Rattle.std.specs.Prelude.{ℕ, ◌+◌, Bool, ◌&&◌, List, [], ◌∷◌,
 use Rattle.std.specs.List.{list_all, find, list_any}
 use Rattle.std.specs.Str.{bytes_eq}
 use Rattle.wp_model.specs.declared.word.TheConstants.{MOST_KEY_BYTES, MOST_NAME_BYTES, MOST_VALUE_BYTES}
-use Rattle.wp_model.specs.Word.{is_word}
+use Rattle.wp_model.specs.Word.{is_word, is_name}
 use Rattle.wp_model.specs.declared.word.WordError.{WordError}
 use Rattle.wp_model.specs.declared.word.WordError.TheVariants as word_errors
 use Rattle.wp_fields.specs.Reading.{◌>>=◌, map_err}
@@ -29,6 +29,7 @@ use Rattle.wp_text.specs.declared.script.Command.TheVariants as command
 use Rattle.wp_text.specs.declared.script.Part.{Part}
 use Rattle.wp_text.specs.declared.line.TheConstants.{MOST_LINE_BYTES}
 use Rattle.wp_text.specs.declared.read.TheConstants.{MOST_BYTES, MOST_CLIENTS}
+use Rattle.wp_text.specs.Names.{may_be_settled}
 use Rattle.wp_text.specs.Grammar.{lines_of, is_line_byte, words_of, is_passed_over}
 
 -- ---- words
@@ -61,6 +62,7 @@ keyword_text keyword.Del = codes "del"
 keyword_text keyword.Get = codes "get"
 keyword_text keyword.Scan = codes "scan"
 keyword_text keyword.Lock = codes "lock"
+keyword_text keyword.Settle = codes "settle"
 
 unfoldable pub keyword_named : List ℕ → Option Keyword
 keyword_named word = find (λ keyword. bytes_eq (keyword_text keyword) word) KEYWORDS
@@ -92,6 +94,14 @@ scan_with (from ∷ to ∷ at ∷ name ∷ []) =
     then (two_words MOST_KEY_BYTES MOST_KEY_BYTES (from ∷ to ∷ []) >>= λ both. one_word MOST_NAME_BYTES (name ∷ []) >>= λ label. Ok (statement.Command (command.ScanAt both.0 both.1 label)))
     else Err BadCommand
 scan_with words = two_words MOST_KEY_BYTES MOST_KEY_BYTES words >>= λ both. Ok (statement.Command (command.Scan both.0 both.1))
+
+-- the words as names
+unfoldable pub names_of : List (List ℕ) → Result (List (List ℕ)) Why
+names_of words = if list_all is_name words then Ok words else Err BadWord
+
+-- the names that one command settles
+unfoldable pub settled_names : List (List ℕ) → Result (List (List ℕ)) Why
+settled_names words = if may_be_settled words then names_of words else Err BadCommand
 
 -- what is said of a name
 abbrev pub said_of : Named → List ℕ → Statement
@@ -131,6 +141,9 @@ statement_with keyword.Scan words = scan_with words
 statement_with keyword.Lock words = do
   key ← one_word MOST_KEY_BYTES words
   Ok (statement.Command (command.Lock key))
+statement_with keyword.Settle words = do
+  names ← settled_names words
+  Ok (statement.Command (command.Settle names))
 
 -- the same where the first word names a keyword
 unfoldable pub statement_named : Option Keyword → List (List ℕ) → Result (Option Statement) Why

@@ -19,7 +19,7 @@ pub enum Why {
     #[error("bad byte")]
     BadByte,
     /// No command begins with the first word, or it has another number of words, or the third of four words that
-    /// begin with `get`, or the fourth of five that begin with `scan`, is not `at`.
+    /// begin with `get`, or the fourth of five that begin with `scan`, is not `at`, or a `settle` has a name twice.
     #[error("bad command")]
     BadCommand,
     /// A key, a value or a name is too long.

@@ -36,9 +36,10 @@ pub(crate) enum Keyword {
     Get,
     Scan,
     Lock,
+    Settle,
 }
 
-const KEYWORDS: [Keyword; 20] = [
+const KEYWORDS: [Keyword; 21] = [
     Keyword::Named(Named::Client),
     Keyword::Put,
     Keyword::Del,
@@ -54,6 +55,7 @@ const KEYWORDS: [Keyword; 20] = [
     Keyword::Bare(Bare::Rollback),
     Keyword::Bare(Bare::Leave),
     Keyword::Named(Named::Take),
+    Keyword::Settle,
     Keyword::Bare(Bare::Flush),
     Keyword::Bare(Bare::Compact),
     Keyword::Bare(Bare::Renew),
@@ -106,6 +108,7 @@ impl Keyword {
             Keyword::Get => b"get",
             Keyword::Scan => b"scan",
             Keyword::Lock => b"lock",
+            Keyword::Settle => b"settle",
         }
     }
 

@@ -12,6 +12,7 @@ mod keyword;
 mod limits;
 mod line;
 mod lines;
+mod names;
 mod pairs;
 mod read;
 mod replies;
@@ -24,6 +25,7 @@ pub use line::MOST_LINE_BYTES;
 pub use lines::{
     base_line, carried_line, client_line, end_line, has_line, history_line, reply_line,
 };
+pub use names::Names;
 pub use pairs::Pairs;
 pub use read::{MOST_BYTES, MOST_CLIENTS, one_reading, read_script};
 pub use replies::Answered;

@@ -7,6 +7,7 @@ ghost use Rattle.wp_text.specs.Reading.{line_fault, one_word, two_words, alone, 
 
 use crate::fault::{LineError, Why};
 use crate::keyword::{Bare, Keyword, Named};
+use crate::names::Names;
 use crate::script::Command;
 use std::alloc::{AllocError, Global};
 use wp_model::{Name, Word};
@@ -169,6 +170,7 @@ fn statement_with(alloc: Global, keyword: Keyword, words: &[&[u8]]) -> Result<St
         Keyword::Get => get_with(alloc, words),
         Keyword::Scan => scan_with(alloc, words),
         Keyword::Lock => Ok(Statement::Command(Command::Lock(one_word(alloc, words)?))),
+        Keyword::Settle => Ok(Statement::Command(Command::Settle(Names::read(alloc, words)?))),
     }
 }
 

@@ -129,6 +129,8 @@ fn words_of(reply: &Reply) -> Words<'_>
         Reply::RolledBack(n) => Words::Number(b"rollback @", *n),
         Reply::Left => Words::Text(b"left"),
         Reply::Took => Words::Text(b"took"),
+        Reply::Settled { last, count } => Words::Numbers(b"settled @", *last, *count),
+        Reply::Crowded { first, second } => Words::Numbers(b"crowded ", *first, *second),
         Reply::Told(n) => Words::Number(b"told @", *n),
         Reply::Heard(n) => Words::Number(b"heard @", *n),
         Reply::State => Words::Text(b"state"),

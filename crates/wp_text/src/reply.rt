@@ -40,6 +40,10 @@ pub enum Reply {
     Left,
     /// The prepared transaction is the client's.
     Took,
+    /// The transactions are committed, by so many entries, of which the last has this number.
+    Settled { last: Seq, count: u64 },
+    /// Nothing is settled: the prepares with these two numbers, of two of the names, have one place in the commit cache.
+    Crowded { first: Seq, second: Seq },
     /// The number published, which is under the label from now on.
     Told(Seq),
     /// The number published, which is no less than what was told last under the label.

@@ -1,3 +1,4 @@
+use crate::names::Names;
 use std::alloc::AllocError;
 use std::marker::Model;
 use wp_model::{Key, Name, Value};
@@ -37,6 +38,8 @@ pub enum Command {
     Leave,
     /// Take the prepared transaction of this name.
     Take(Name),
+    /// Take the prepared transactions of these names, and commit them all.
+    Settle(Names),
     /// Write every version that stands in memory alone into a table.
     Flush,
     /// Merge all tables into one, without the versions that no reader needs.

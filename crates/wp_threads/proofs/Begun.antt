@@ -58,6 +58,7 @@ module _ {D : Type 0} (z : SharedState D) (found : StoredState) (is_found : IsFo
     stopped = refl;
     limit = sym (limit_opened z found.edit.segment.base is_found.at);
     renewed_limit = refl;
+    cells = refl;
     installed = refl;
     halted = refl;
     board = λ label. ((λ is. absurd (some_not_none (finite.get finite.empty label) (get-empty key_cmp label) is)), (λ told. absurd told.1));

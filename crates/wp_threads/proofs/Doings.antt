@@ -48,8 +48,8 @@ module _ {D : Type 0} (z : SharedState D) (found : StoredState) where
 
 -- who took a name has it
 takes_gets : (name : List ℕ) (t : session_txn.Txn) (c : Command) (a : Option Reply) → takes_name name t c a ≡ true → gets_name name t c a ≡ true
-takes_gets name t (command.Take other) (Some reply.Took) is = is
-takes_gets name t c a is = absurd cc
+takes_gets name t (command.Begin other) (Some reply.Begun) is = absurd cc
+takes_gets name t c a is = is
 
 pub took_name : (all : List Dialogue) (i : ℕ) (name : List ℕ) (d : Did all i (took name)) → comes_to (gets_name name) new_client d.own.part.commands d.own.answers ≡ true
 took_name all i name d = comes_wider (takes_name name) (gets_name name) (takes_gets name) new_client d.own.part.commands d.own.answers d.told

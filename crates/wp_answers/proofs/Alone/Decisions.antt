@@ -34,7 +34,7 @@ use Rattle.wp_client.specs.Holdings.{staged_of}
 use Rattle.wp_client.proofs.Alone.Kept.{locked_unprepared, locked_left, left_before, left_prepared, locked_written, locked_rolled}
 use Rattle.wp_client.proofs.Alone.Seated.{none_quiet, follows_on}
 use Rattle.wp_client.proofs.Alone.Quiet.{quiet_answers}
-use Rattle.wp_answers.proofs.Alone.Logged.{AsksFor, put_answers, stopped_answers, full_answers, fault_answers}
+use Rattle.wp_answers.proofs.Alone.Logged.{AsksFor, loose_locks, put_answers, stopped_answers, full_answers, fault_answers}
 
 -- the number of the last entry, where these were put behind a history
 last_number : (history store_history seen entries : List Entry) (n : ℕ) → n ≡ length seen → seen ≡ history ++ entries → history ≡ store_history → n ≡ length store_history + length entries
@@ -99,17 +99,17 @@ module _ {D : Type 0} (z : SharedState D) (first : InstalledEdit) (old new : Sea
     pub open_stopped_alone : (n : ℕ) → RefusesOpen z old t e left (Stopped n) new → AnswersAlone z first old new (opened t) (opened left) c (reply.Stopped n) store
     open_stopped_alone n k =
         back_open (reply.Stopped n) refl k.0
-        (stopped_answers z first old new only store is stood IsLoose it it [] past_same refl past_same none_quiet 1 (λ es. es ≡ e ∷ []) (opened t) c r (e ∷ []) (λ closed found seen. asks) refl n k.2 refl)
+        (stopped_answers z first old new only store is stood IsLoose it it [] past_same refl past_same none_quiet 1 (λ es. es ≡ e ∷ []) (opened t) c r (e ∷ []) (λ closed found seen. asks) (loose_locks z old new it _ store refl) n k.2 refl)
 
     pub open_full_alone : (published limit : ℕ) → RefusesOpen z old t e left (NumbersFull published limit) new → AnswersAlone z first old new (opened t) (opened left) c (reply.Full published limit) store
     open_full_alone published limit k =
         back_open (reply.Full published limit) refl k.0
-        (full_answers z first old new only store is stood IsLoose it it [] past_same refl past_same none_quiet 1 (λ es. es ≡ e ∷ []) (opened t) c r (e ∷ []) (λ closed found seen. asks) refl published limit k.2 refl)
+        (full_answers z first old new only store is stood IsLoose it it [] past_same refl past_same none_quiet 1 (λ es. es ≡ e ∷ []) (opened t) c r (e ∷ []) (λ closed found seen. asks) (loose_locks z old new it _ store refl) published limit k.2 refl)
 
     pub open_fault_alone : RefusesOpen z old t e left LogFault new → AnswersAlone z first old new (opened t) (opened left) c reply.FaultLog store
     open_fault_alone k =
         back_open reply.FaultLog refl k.0
-        (fault_answers z first old new only store is stood IsLoose it it [] past_same refl past_same none_quiet 1 (λ es. es ≡ e ∷ []) (opened t) c r (e ∷ []) (λ closed found seen. asks) refl (λ es seen same. same) k.2 refl)
+        (fault_answers z first old new only store is stood IsLoose it it [] past_same refl past_same none_quiet 1 (λ es. es ≡ e ∷ []) (opened t) c r (e ∷ []) (λ closed found seen. asks) (loose_locks z old new it _ store refl) (λ es seen same. same) k.2 refl)
 
   -- which entry a prepare and a commit ask for
   pub prepare_asks : (t : OpenState) → AsksFor store (opened t) command.Prepare 1 (reply.Prepared (next store.history)) (entry.Prepare t.name t.batch ∷ [])
@@ -164,17 +164,17 @@ module _ {D : Type 0} (z : SharedState D) (first : InstalledEdit) (old new : Sea
     pub commit_stopped_alone : (n : ℕ) → RefusesPrepared z old t 1 AsksCommit left (Stopped n) new → AnswersAlone z first old new (prepared t) (prepared left) command.Commit (reply.Stopped n) store
     commit_stopped_alone n k =
         back_prepared t left command.Commit (reply.Stopped n) k.0
-        (stopped_answers z first old new only store is stood IsLoose it it [] past_same refl past_same none_quiet 1 (AsksCommit new.knows.participant.seen t) (prepared t) command.Commit (reply.Committed (next store.history)) (entry.Commit t.number ∷ []) commit_refused refl n k.2 refl)
+        (stopped_answers z first old new only store is stood IsLoose it it [] past_same refl past_same none_quiet 1 (AsksCommit new.knows.participant.seen t) (prepared t) command.Commit (reply.Committed (next store.history)) (entry.Commit t.number ∷ []) commit_refused (loose_locks z old new it _ store refl) n k.2 refl)
 
     pub commit_full_alone : (published limit : ℕ) → RefusesPrepared z old t 1 AsksCommit left (NumbersFull published limit) new → AnswersAlone z first old new (prepared t) (prepared left) command.Commit (reply.Full published limit) store
     commit_full_alone published limit k =
         back_prepared t left command.Commit (reply.Full published limit) k.0
-        (full_answers z first old new only store is stood IsLoose it it [] past_same refl past_same none_quiet 1 (AsksCommit new.knows.participant.seen t) (prepared t) command.Commit (reply.Committed (next store.history)) (entry.Commit t.number ∷ []) commit_refused refl published limit k.2 refl)
+        (full_answers z first old new only store is stood IsLoose it it [] past_same refl past_same none_quiet 1 (AsksCommit new.knows.participant.seen t) (prepared t) command.Commit (reply.Committed (next store.history)) (entry.Commit t.number ∷ []) commit_refused (loose_locks z old new it _ store refl) published limit k.2 refl)
 
     pub commit_fault_alone : RefusesPrepared z old t 1 AsksCommit left LogFault new → AnswersAlone z first old new (prepared t) (prepared left) command.Commit reply.FaultLog store
     commit_fault_alone k =
         back_prepared t left command.Commit reply.FaultLog k.0
-        (fault_answers z first old new only store is stood IsLoose it it [] past_same refl past_same none_quiet 1 (AsksCommit new.knows.participant.seen t) (prepared t) command.Commit (reply.Committed (next store.history)) (entry.Commit t.number ∷ []) commit_refused refl (λ es seen same. same) k.2 refl)
+        (fault_answers z first old new only store is stood IsLoose it it [] past_same refl past_same none_quiet 1 (AsksCommit new.knows.participant.seen t) (prepared t) command.Commit (reply.Committed (next store.history)) (entry.Commit t.number ∷ []) commit_refused (loose_locks z old new it _ store refl) (λ es seen same. same) k.2 refl)
 
     module _ (has : HasPrepared old t) where
       abbrev undone : List Entry
@@ -186,17 +186,17 @@ module _ {D : Type 0} (z : SharedState D) (first : InstalledEdit) (old new : Sea
       pub rollback_stopped_alone : (n : ℕ) → RefusesPrepared z old t 2 AsksRollback left (Stopped n) new → AnswersAlone z first old new (prepared t) (prepared left) command.Rollback (reply.Stopped n) store
       rollback_stopped_alone n k =
           back_prepared t left command.Rollback (reply.Stopped n) k.0
-          (stopped_answers z first old new only store is stood IsLoose it it [] past_same refl past_same none_quiet 2 (AsksRollback new.knows.participant.seen t) (prepared t) command.Rollback (reply.RolledBack (next store.history + 1)) undone rollback_refused refl n k.2 refl)
+          (stopped_answers z first old new only store is stood IsLoose it it [] past_same refl past_same none_quiet 2 (AsksRollback new.knows.participant.seen t) (prepared t) command.Rollback (reply.RolledBack (next store.history + 1)) undone rollback_refused (loose_locks z old new it _ store refl) n k.2 refl)
 
       pub rollback_full_alone : (published limit : ℕ) → RefusesPrepared z old t 2 AsksRollback left (NumbersFull published limit) new → AnswersAlone z first old new (prepared t) (prepared left) command.Rollback (reply.Full published limit) store
       rollback_full_alone published limit k =
           back_prepared t left command.Rollback (reply.Full published limit) k.0
-          (full_answers z first old new only store is stood IsLoose it it [] past_same refl past_same none_quiet 2 (AsksRollback new.knows.participant.seen t) (prepared t) command.Rollback (reply.RolledBack (next store.history + 1)) undone rollback_refused refl published limit k.2 refl)
+          (full_answers z first old new only store is stood IsLoose it it [] past_same refl past_same none_quiet 2 (AsksRollback new.knows.participant.seen t) (prepared t) command.Rollback (reply.RolledBack (next store.history + 1)) undone rollback_refused (loose_locks z old new it _ store refl) published limit k.2 refl)
 
       pub rollback_fault_alone : RefusesPrepared z old t 2 AsksRollback left LogFault new → AnswersAlone z first old new (prepared t) (prepared left) command.Rollback reply.FaultLog store
       rollback_fault_alone k =
           back_prepared t left command.Rollback reply.FaultLog k.0
-          (fault_answers z first old new only store is stood IsLoose it it [] past_same refl past_same none_quiet 2 (AsksRollback new.knows.participant.seen t) (prepared t) command.Rollback (reply.RolledBack (next store.history + 1)) undone rollback_refused refl
+          (fault_answers z first old new only store is stood IsLoose it it [] past_same refl past_same none_quiet 2 (AsksRollback new.knows.participant.seen t) (prepared t) command.Rollback (reply.RolledBack (next store.history + 1)) undone rollback_refused (loose_locks z old new it _ store refl)
           (λ es seen same. same ∙ ap (λ (h : List Entry). entry.Undo t.number (prior h t.batch) ∷ entry.Close t.number ∷ []) seen) k.2 refl)
 
   -- ---- it is given up

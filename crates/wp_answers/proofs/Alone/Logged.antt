@@ -18,11 +18,13 @@ use Rattle.wp_core.proofs.EachStep.{reached_is_sound}
 use Rattle.wp_records.specs.Writing.{FoundLog}
 use Rattle.wp_records.specs.Records.{numbers_behind, IsAboutNone}
 use Rattle.wp_rule.proofs.Knows.{one_was_first}
+use Rattle.wp_shared.specs.Calls.{IsLoose, ContinuesWith}
 use Rattle.wp_shared.specs.Limits.{limit_at}
 use Rattle.wp_parts.specs.Parts.{content}
 use Rattle.wp_shared.specs.Seats.{SharedState, SeatState, Stands}
 use Rattle.wp_open_txns.specs.declared.error.TxnError.TheVariants.{NumbersFull, LogFault, Stopped}
-use Rattle.wp_txn.specs.Writes.{HasPut, Refuses}
+use Rattle.wp_txn.specs.Writes.{HasPut, RefusesWith}
+use Rattle.wp_replies.specs.Txn.{Txn}
 use Rattle.wp_replies.specs.Client.{Client}
 use Rattle.wp_replies.specs.Due.{Store, plan_in, logged, due, edit_of, board_after, locked_after, store_after, client_after}
 use Rattle.wp_replies.specs.Kind.{is_logged, is_fault, is_installed, is_renewed, is_renewal, calls_log}
@@ -72,6 +74,7 @@ store_with store was c needed r entries a = λ i. record {
   stopped = ap (λ (b : Bool). if b then true else store.stopped) (never_stops (is_renewal c) (kind.kind r) a.fault a.tables) i;
   limit = ap (λ (b : Bool). if b then store.renewed_limit else store.limit) (never_renews (kind.kind r) a.installed) i;
   renewed_limit = store.renewed_limit;
+  cells = store.cells;
   installed = ap (λ (b : Bool). if b then edit_of 0 store was (plan_in store was c) else store.installed) a.installed i;
   halted = ap (λ (b : Bool). if b then true else store.halted) a.tables i;
   board = a.board store.board r i;
@@ -86,11 +89,19 @@ store_failed store was c needed r entries a = λ i. record {
   stopped = true;
   limit = store.limit;
   renewed_limit = store.renewed_limit;
+  cells = store.cells;
   installed = store.installed;
   halted = store.halted;
   board = a.board store.board reply.FaultLog i;
   locked = locked_same store.locked was.txn reply.FaultLog refl i;
 }
+
+-- who goes on as this participant, but for what it remembers, knows of the locked keys what it knew
+abbrev pub StillLocks : {D : Type 0} → (Fact → Type 0) → SharedState D → SeatState → SeatState → Participant → Txn → Store → Type 0
+StillLocks Stays z old new after txn store = (p : Participant) → p.transactions ≡ after.transactions → ContinuesWith Stays z old new p → AreLockedIn z old txn store → AreLockedIn z new txn store
+
+pub loose_locks : {D : Type 0} (z : SharedState D) (old new : SeatState) (after : Participant) (txn : Txn) (store : Store) → after.transactions ≡ old.knows.participant.transactions → StillLocks IsLoose z old new after txn store
+loose_locks z old new after txn store same = λ p has goes. goes_still z old new p goes (has ∙ same) txn store
 
 of_last : (others es : List Entry) → IsIn (log_failed others) (log_failed es ∷ []) → others ≡ es
 of_last others es (inl same) = let e : log_failed es ≡ log_failed others = same in cc
@@ -165,6 +176,7 @@ module _ {D : Type 0} (z : SharedState D) (first : InstalledEdit) (old new : Sea
             stopped = log_still z first old new only store is stood (numbers_behind (length history) entries) pre f quiet.log;
             limit = is.limit;
             renewed_limit = is.renewed_limit;
+            cells = is.cells;
             installed = still.installed;
             halted = still.halted;
             board = still.board;
@@ -184,11 +196,11 @@ module _ {D : Type 0} (z : SharedState D) (first : InstalledEdit) (old new : Sea
       -- ---- they are refused
 
       module _ (needed : ℕ) (Asks : List Entry → Type 0) (was : Client) (c : Command) (r : Reply) (entries : List Entry)
-          (asks : (closed : Bool) → FoundLog z old found new.knows.participant.seen closed → new.knows.participant.seen ≡ store.history → AsksFor store was c needed r entries) (after_has : after.transactions ≡ old.knows.participant.transactions) where
+          (asks : (closed : Bool) → FoundLog z old found new.knows.participant.seen closed → new.knows.participant.seen ≡ store.history → AsksFor store was c needed r entries) (locks_stay : StillLocks Stays z old new after was.txn store) where
         leaves_for : (answer : Reply) → is_logged answer ≡ false → is_fault answer ≡ false → is_installed answer ≡ false → kind.is_tables_fault answer ≡ false → AsksFor store was c needed r entries → LeavesStore c answer
         leaves_for answer l f i t a = record { logged = l; fault = f; installed = i; tables = t; board = λ b. a.board b answer }
 
-        pub stopped_answers : (n : ℕ) → Refuses z old new needed Asks found after (Stopped n) → was ≡ client_after store.history was c (reply.Stopped n) → AnswersAlone z first old new was was c (reply.Stopped n) store
+        pub stopped_answers : (n : ℕ) → RefusesWith Stays z old new needed Asks found after (Stopped n) → was ≡ client_after store.history was c (reply.Stopped n) → AnswersAlone z first old new was was c (reply.Stopped n) store
         stopped_answers n k client =
             let events : List Event = pre ++ stopped n ∷ [] in
             let all_quiet : AreQuiet events = both_quiet pre (stopped n ∷ []) quiet (one_quiet (stopped n) refl refl (λ edit. refl) (λ label m e. absurd cc)) in
@@ -200,9 +212,9 @@ module _ {D : Type 0} (z : SharedState D) (first : InstalledEdit) (old new : Sea
             let closed = (was_stopped behind_it stood.1.reached new.knows alone n there).0 in
             let failed : store.stopped ≡ true = if_one store.stopped (log_still z first old new only store is stood [] events f all_quiet.log ∙ ((only_of behind_it stood.1.reached new.knows alone).closed ∙ ap one_if closed)) in
             quiet_answers z first old new only store is stood events f all_quiet was was c (reply.Stopped n) (leaves_for (reply.Stopped n) refl refl refl refl a)
-            (inl (sym (a.due_is ∙ (log_is_stopped store needed r failed ∙ ap reply.Stopped (sym (k.0 ∙ ap (λ (h : List Entry). length h) seen)))))) client (goes_still z old new _ k.2 after_has was.txn store)
+            (inl (sym (a.due_is ∙ (log_is_stopped store needed r failed ∙ ap reply.Stopped (sym (k.0 ∙ ap (λ (h : List Entry). length h) seen)))))) client (locks_stay _ refl k.2)
 
-        pub full_answers : (published limit : ℕ) → Refuses z old new needed Asks found after (NumbersFull published limit) → was ≡ client_after store.history was c (reply.Full published limit) → AnswersAlone z first old new was was c (reply.Full published limit) store
+        pub full_answers : (published limit : ℕ) → RefusesWith Stays z old new needed Asks found after (NumbersFull published limit) → was ≡ client_after store.history was c (reply.Full published limit) → AnswersAlone z first old new was was c (reply.Full published limit) store
         full_answers published limit k client =
             let last : Event = based_at published k.2.world.installed.last.segment.base in
             let events : List Event = pre ++ last ∷ [] in
@@ -215,9 +227,9 @@ module _ {D : Type 0} (z : SharedState D) (first : InstalledEdit) (old new : Sea
             let most : limit ≡ store.limit = k.3 ∙ limit_found found new.knows.participant.seen false pre found_past quiet.leave k.2 in
             let full : store.limit < length store.history + needed = (let over = k.1 in omega (arith, size, most, over)) in
             quiet_answers z first old new only store is stood events f all_quiet was was c (reply.Full published limit) (leaves_for (reply.Full published limit) refl refl refl refl a)
-            (inl (sym (a.due_is ∙ (log_is_full store needed r running full ∙ ap (λ (x : ℕ × ℕ). reply.Full x.0 x.1) (λ i. (sym size i, sym most i)))))) client (goes_still z old new _ k.4 after_has was.txn store)
+            (inl (sym (a.due_is ∙ (log_is_full store needed r running full ∙ ap (λ (x : ℕ × ℕ). reply.Full x.0 x.1) (λ i. (sym size i, sym most i)))))) client (locks_stay _ refl k.4)
 
-        pub fault_answers : ((es : List Entry) → new.knows.participant.seen ≡ store.history → Asks es → es ≡ entries) → Refuses z old new needed Asks found after LogFault → was ≡ client_after store.history was c reply.FaultLog → AnswersAlone z first old new was was c reply.FaultLog store
+        pub fault_answers : ((es : List Entry) → new.knows.participant.seen ≡ store.history → Asks es → es ≡ entries) → RefusesWith Stays z old new needed Asks found after LogFault → was ≡ client_after store.history was c reply.FaultLog → AnswersAlone z first old new was was c reply.FaultLog store
         fault_answers same k client =
             let es = k.2.0 in let asks_it = k.2.1 in
             let events : List Event = pre ++ log_failed es ∷ [] in
@@ -236,7 +248,7 @@ module _ {D : Type 0} (z : SharedState D) (first : InstalledEdit) (old new : Sea
               replied = inr (inl (refl, ap calls_log (a.due_is ∙ log_takes store needed r running room) ∙ ap (λ (b : Bool). b || is_renewed r) a.logged));
               place = 0;
               store_is = subst (λ (x : Store). IsStoreOf z first new.knows.participant x) (sym (store_failed store was c needed r entries a)) failed;
-              locked = λ are. subst (AreLockedIn z new was.txn) (sym (store_failed store was c needed r entries a)) (goes_still z old new _ k.2.2 after_has was.txn store are);
+              locked = λ are. subst (AreLockedIn z new was.txn) (sym (store_failed store was c needed r entries a)) (locks_stay _ refl k.2.2 are);
               client = client;
               events = events;
               past = f.past;

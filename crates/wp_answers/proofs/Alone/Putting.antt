@@ -22,7 +22,7 @@ behind_low n [] m there = absurd there
 behind_low n (entry ∷ entries) m (inl same) = omega (arith, same)
 behind_low n (entry ∷ entries) m (inr there) = let k = behind_low (suc n) entries m there in omega (arith, k)
 
-behind_high : (n : ℕ) (entries : List Entry) (m : ℕ) → IsIn m (numbers_behind n entries) → m ≤ n + length entries
+pub behind_high : (n : ℕ) (entries : List Entry) (m : ℕ) → IsIn m (numbers_behind n entries) → m ≤ n + length entries
 behind_high n [] m there = absurd there
 behind_high n (entry ∷ entries) m (inl same) = omega (arith, same)
 behind_high n (entry ∷ entries) m (inr there) = let k = behind_high (suc n) entries m there in omega (arith, k)

@@ -71,6 +71,7 @@ store_with store was c ready next r logged fault takes tables a = λ i. record {
   stopped = ap (λ (b : Bool). if b then true else store.stopped) (never_stops (is_renewal c) (kind.kind r) fault tables) i;
   limit = limit_after store r;
   renewed_limit = store.renewed_limit;
+  cells = store.cells;
   installed = (ap (λ (b : Bool). if b then edit_of a.place store was (plan_in store was c) else store.installed) takes ∙ a.edit_is) i;
   halted = ap (λ (b : Bool). if b then true else store.halted) tables i;
   board = a.board store.board r i;
@@ -80,7 +81,7 @@ store_with store was c ready next r logged fault takes tables a = λ i. record {
 -- the store with its tables halted, and its log stopped where the command is a renewal
 pub store_halted : (store : Store) (was : Client) (c : Command) (ready : Reply) (next : InstalledEdit) (a : AsksTablesFor store was c ready next) → store_after a.place store was c reply.FaultTables ≡ record store { halted = true; stopped = if is_renewal c then true else store.stopped }
 store_halted store was c ready next a =
-    λ i. record { base = store.base; history = append-nil store.history i; stopped = if is_renewal c then true else store.stopped; limit = store.limit; renewed_limit = store.renewed_limit; installed = store.installed; halted = true; board = a.board store.board reply.FaultTables i; locked = locked_same store.locked was.txn reply.FaultTables refl i }
+    λ i. record { base = store.base; history = append-nil store.history i; stopped = if is_renewal c then true else store.stopped; limit = store.limit; renewed_limit = store.renewed_limit; cells = store.cells; installed = store.installed; halted = true; board = a.board store.board reply.FaultTables i; locked = locked_same store.locked was.txn reply.FaultTables refl i }
 
 module _ {D : Type 0} (z : SharedState D) (first : InstalledEdit) (old new : SeatState) (only : IsOnly old) (store : Store) (is : IsStoreOf z first old.knows.participant store) (stood : (w : World) × Stands z new w) (was_last : WasLast content z.first first) where
   module _ (e : Installed) (f : Finds z old new e) where
@@ -162,6 +163,7 @@ module _ {D : Type 0} (z : SharedState D) (first : InstalledEdit) (old new : Sea
             stopped = log_still z first old new only store is stood [] events f log;
             limit = limit_is;
             renewed_limit = is.renewed_limit;
+            cells = is.cells;
             installed = sym (last ∙ edit_is);
             halted = let now = tables_now z first old new only store is stood [] events f in omega (arith, now, none);
             board = board_still z first old new only store is stood [] events f (λ label n there. untold label n made makes there);

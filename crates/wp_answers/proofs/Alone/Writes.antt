@@ -33,7 +33,7 @@ use Rattle.wp_client.proofs.Alone.Keys.{key_is_free, key_is_held}
 use Rattle.wp_client.proofs.Alone.Kept.{goes_still, locked_written}
 use Rattle.wp_client.proofs.Alone.Seated.{AreQuiet, one_quiet, follows_on}
 use Rattle.wp_client.proofs.Alone.Quiet.{quiet_answers}
-use Rattle.wp_answers.proofs.Alone.Logged.{AsksFor, put_answers, stopped_answers, full_answers, fault_answers}
+use Rattle.wp_answers.proofs.Alone.Logged.{AsksFor, loose_locks, put_answers, stopped_answers, full_answers, fault_answers}
 use Rattle.wp_client.proofs.Alone.Changing.{board_same, writes_at_once, is_busy_at_once, still_idle}
 
 -- the reply that acknowledges a change says of an entry, and of nothing else
@@ -103,12 +103,12 @@ module _ {D : Type 0} (z : SharedState D) (first : InstalledEdit) (old new : Sea
 
   pub stopped_alone : AreLockedIn z old Idle store → (n : ℕ) → WritesDirect z old c (Err (Stopped n)) new → AnswersAlone z first old new idle idle (asking c) (reply.Stopped n) store
   stopped_alone locks n w =
-      stopped_answers z first old new only store is stood IsLoose (writing_direct (key_of c) it) (wrote_direct (key_of c) it) lock refl refl refl lock_quiet 1 (λ es. es ≡ entries) idle (asking c) (acknowledging c (next store.history)) entries (asks_refused locks w.1) refl n w.0 refl
+      stopped_answers z first old new only store is stood IsLoose (writing_direct (key_of c) it) (wrote_direct (key_of c) it) lock refl refl refl lock_quiet 1 (λ es. es ≡ entries) idle (asking c) (acknowledging c (next store.history)) entries (asks_refused locks w.1) (loose_locks z old new (wrote_direct (key_of c) it) Idle store refl) n w.0 refl
 
   pub full_alone : AreLockedIn z old Idle store → (published limit : ℕ) → WritesDirect z old c (Err (NumbersFull published limit)) new → AnswersAlone z first old new idle idle (asking c) (reply.Full published limit) store
   full_alone locks published limit w =
-      full_answers z first old new only store is stood IsLoose (writing_direct (key_of c) it) (wrote_direct (key_of c) it) lock refl refl refl lock_quiet 1 (λ es. es ≡ entries) idle (asking c) (acknowledging c (next store.history)) entries (asks_refused locks w.1) refl published limit w.0 refl
+      full_answers z first old new only store is stood IsLoose (writing_direct (key_of c) it) (wrote_direct (key_of c) it) lock refl refl refl lock_quiet 1 (λ es. es ≡ entries) idle (asking c) (acknowledging c (next store.history)) entries (asks_refused locks w.1) (loose_locks z old new (wrote_direct (key_of c) it) Idle store refl) published limit w.0 refl
 
   pub fault_alone : AreLockedIn z old Idle store → WritesDirect z old c (Err LogFault) new → AnswersAlone z first old new idle idle (asking c) reply.FaultLog store
   fault_alone locks w =
-      fault_answers z first old new only store is stood IsLoose (writing_direct (key_of c) it) (wrote_direct (key_of c) it) lock refl refl refl lock_quiet 1 (λ es. es ≡ entries) idle (asking c) (acknowledging c (next store.history)) entries (asks_refused locks w.1) refl (λ es seen same. same) w.0 refl
+      fault_answers z first old new only store is stood IsLoose (writing_direct (key_of c) it) (wrote_direct (key_of c) it) lock refl refl refl lock_quiet 1 (λ es. es ≡ entries) idle (asking c) (acknowledging c (next store.history)) entries (asks_refused locks w.1) (loose_locks z old new (wrote_direct (key_of c) it) Idle store refl) (λ es seen same. same) w.0 refl

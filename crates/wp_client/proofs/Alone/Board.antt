@@ -28,7 +28,7 @@ use Rattle.wp_client.proofs.Alone.Quiet.{locked_same, quiet_answers}
 
 -- the store once something was told
 store_told : (store : Store) (was : Client) (label : List ℕ) (n : ℕ) → store_after 0 store was (command.Tell label) (reply.Told n) ≡ record store { board = finite.insert store.board label n }
-store_told store was label n = λ i. record { base = store.base; history = append-nil store.history i; stopped = store.stopped; limit = store.limit; renewed_limit = store.renewed_limit; installed = store.installed; halted = store.halted; board = finite.insert store.board label n; locked = locked_same store.locked was.txn (reply.Told n) refl i }
+store_told store was label n = λ i. record { base = store.base; history = append-nil store.history i; stopped = store.stopped; limit = store.limit; renewed_limit = store.renewed_limit; cells = store.cells; installed = store.installed; halted = store.halted; board = finite.insert store.board label n; locked = locked_same store.locked was.txn (reply.Told n) refl i }
 
 -- only the label was told
 told_is : (label other : List ℕ) (n m : ℕ) → IsIn (told other m) (told label n ∷ []) → other ≡ label

@@ -1,5 +1,6 @@
 -- What a client that is alone knows of the keys of prepared transactions, as it goes on.
-use Rattle.std.proofs.Common.{◌≡◌, ◌⊎◌, ⊎_elim, inl, inr, ℕ, suc, ◌<◌, ◌≤◌, Bool, true, false, true≢false, ◌||◌, List, [], ◌∷◌, ◌++◌, length, Some, refl, sym, subst, ap, ◌∙◌, append_assoc, arith}
+use Rattle.std.proofs.Common.{◌≡◌, ◌⊎◌, ⊎_elim, inl, inr, ℕ, suc, ◌<◌, ◌≤◌, Bool, true, false, true≢false, ◌||◌, List, [], ◌∷◌, ◌++◌, length, Some, refl, sym, subst, ap, ◌∙◌, append_assoc, append-nil, arith}
+use Rattle.std.specs.List.{AllByRecursion}
 use Rattle.std.specs.FinMap as finite
 use Rattle.std.specs.FinSet as set
 use Rattle.wp_model.specs.declared.change.Change.{Change}
@@ -218,3 +219,12 @@ locked_rolled z old new was now history undo close legal locked keeps plain also
     subst (λ (h : List Entry). AreLockedOf z new now h locked) both
     (left_after z new now (IsPrepare was) ((history ++ undo ∷ []) ++ close ∷ []) locked (λ p is. decided z new (history ++ undo ∷ []) close whole p (own p is) also)
     (left_written z new (history ++ undo ∷ []) close whole (IsPrepare was) locked also (left_written z new history undo front (IsPrepare was) locked plain (left_before z old new was history locked keeps are))))
+
+-- entries that prepare nothing, where the client had prepared nothing
+pub locked_each : {D : Type 0} (z : SharedState D) (s : SeatState) (history entries : List Entry) → IsLegal (history ++ entries) → (locked : List LockedKeys) → AllByRecursion (λ e. is_prepare (Some e) ≡ false) entries → AreLockedOf z s Idle history locked → AreLockedOf z s Idle (history ++ entries) locked
+locked_each z s history [] legal locked plain are = subst (λ (h : List Entry). AreLockedOf z s Idle h locked) (sym (append-nil history)) are
+locked_each z s history (made ∷ entries) legal locked plain are =
+    let both : (history ++ made ∷ []) ++ entries ≡ history ++ made ∷ entries = append_assoc history (made ∷ []) entries in
+    let whole = subst IsLegal (sym both) legal in let front = legal_before (history ++ made ∷ []) entries whole in
+    subst (λ (h : List Entry). AreLockedOf z s Idle h locked) both
+    (locked_each z s (history ++ made ∷ []) entries whole locked plain.1 (locked_written z s s Idle Idle history made front locked (λ name p keys there. there) plain.0 (λ p own. absurd own) are))

@@ -71,14 +71,6 @@ module _ {D : Type 0} (z : SharedState D) (first : InstalledEdit) (old new : Sea
         (record { logged = refl; fault = refl; installed = refl; tables = refl; board = λ b. refl })
         (inl (ap (λ (x : List ℕ × ℕ). reply.Unknown x.0 x.1) (λ i. (k.0 i, number i)) ∙ sym (ap (λ (o : Option ℕ). take_reply store.history o name) free))) refl (goes_still z old new _ k.3 refl Idle store)
 
-    -- nobody else has it
-    pub never_in_use : (name other : List ℕ) → TakesPrepared z old name (Err (InUse other)) new → ⊥
-    never_in_use name other k =
-        let f = k.1 in let s = f.stood in
-        let made = ap (λ (a : Actor). a.made) s.same ∙ only.made in let joined = ap (λ (a : Actor). a.joined) s.same ∙ only.joined in
-        let has = (only_of f.world s.there.reached s.actor (alone_at z old.by s.actor f.world s.there only.by made joined)).names name k.2.0 k.2.1 in
-        none_some (finite.get s.actor.participant.transactions name) has.0 (ap (λ (a : Actor). finite.get a.participant.transactions name) s.same ∙ none name) has.1
-
   pub took_alone : (name : List ℕ) (txn : PreparedState) → TakesPrepared z old name (Ok txn) new → AnswersAlone z first old new idle (record { txn = Prepared txn.number; snapshots = snapshots }) (command.Take name) reply.Took store
   took_alone name txn k =
       let events : List Event = took name ∷ [] in
@@ -88,3 +80,11 @@ module _ {D : Type 0} (z : SharedState D) (first : InstalledEdit) (old new : Sea
       (record { logged = refl; fault = refl; installed = refl; tables = refl; board = λ b. refl })
       (inl (sym (ap (λ (o : Option ℕ). take_reply store.history o name) there)))
       (sym (ap (λ (o : Option ℕ). record { txn = Prepared (unwrap_or o 0); snapshots = snapshots }) there)) (goes_unprepared z old new _ k.goes_on Idle (Prepared txn.number) store tt)
+
+-- nobody else has it
+pub never_in_use : {D : Type 0} (z : SharedState D) (old new : SeatState) → IsOnly old → (name other : List ℕ) → finite.get old.knows.participant.transactions name ≡ None → TakesPrepared z old name (Err (InUse other)) new → ⊥
+never_in_use z old new only name other none k =
+    let f = k.1 in let s = f.stood in
+    let made = ap (λ (a : Actor). a.made) s.same ∙ only.made in let joined = ap (λ (a : Actor). a.joined) s.same ∙ only.joined in
+    let has = (only_of f.world s.there.reached s.actor (alone_at z old.by s.actor f.world s.there only.by made joined)).names name k.2.0 k.2.1 in
+    none_some (finite.get s.actor.participant.transactions name) has.0 (ap (λ (a : Actor). finite.get a.participant.transactions name) s.same ∙ none) has.1

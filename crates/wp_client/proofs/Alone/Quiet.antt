@@ -55,6 +55,7 @@ store_stays store was c r l = λ i. record {
   stopped = ap (λ (b : Bool). if b then true else store.stopped) (never_stops (is_renewal c) (kind.kind r) l.fault l.tables) i;
   limit = ap (λ (b : Bool). if b then store.renewed_limit else store.limit) (never_renews (kind.kind r) l.installed) i;
   renewed_limit = store.renewed_limit;
+  cells = store.cells;
   installed = ap (λ (b : Bool). if b then edit_of 0 store was (plan_in store was c) else store.installed) l.installed i;
   halted = ap (λ (b : Bool). if b then true else store.halted) l.tables i;
   board = l.board store.board i;

@@ -219,6 +219,7 @@ module _ {D : Type 0} (z : SharedState D) (first : InstalledEdit) (old new : Sea
       stopped = closes;
       limit = is.limit;
       renewed_limit = is.renewed_limit;
+      cells = is.cells;
       installed = edit_still [] events f none;
       halted = halts;
       board = board;

@@ -31,6 +31,7 @@ opened_is_told z found client same was at = record {
   stopped = refl;
   limit = sym (limit_opened z found.edit.segment.base at);
   renewed_limit = refl;
+  cells = refl;
   installed = refl;
   halted = refl;
   board = λ label. ((λ known. absurd (true≢false (sym known ∙ ap (λ (o : Option ℕ). is_some o) (finite.get-empty key_cmp label)))), (λ told. absurd told.1));

@@ -223,3 +223,21 @@ returns-in-Lock-clause-err g c = rw (c.in-Lock.is, ← c.held-in-Lock.view_is)
 
 pub returns-in-Lock-clause-uncalled : goal.returns-in-Lock-clause-uncalled
 returns-in-Lock-clause-uncalled g c = rw c.in-Lock.is (if_broken c.lock.result (inr tt))
+
+pub settle-requires : goal.settle-requires
+settle-requires g c = (subst (Holds c.args.store.now c.args.seat.now) (sym c.held-in-Settle.view_is) c.requires).txn
+
+pub returns-in-Settle-clause-holds : goal.returns-in-Settle-clause-holds
+returns-in-Settle-clause-holds g c = rw (← c.held-in-Settle.view_is)
+    (whole_holds c.args.store.now c.args.seat.now c.settle.new.seat c.held-in-Settle.inside.txn c.held-in-Settle.inside.txn c.held-in-Settle.inside.snapshots.items c.settle.ensures.holds (subst (Holds c.args.store.now c.args.seat.now) (sym c.held-in-Settle.view_is) c.requires))
+
+pub returns-in-Settle-clause-answered : goal.returns-in-Settle-clause-answered
+returns-in-Settle-clause-answered g c = rw (c.in-Settle.is, ← c.held-in-Settle.view_is)
+    (whole_answers c.args.store.now c.args.seat.now c.settle.new.seat (command.Settle c.in-Settle.names) c.settle.result c.held-in-Settle.inside.txn c.held-in-Settle.inside.txn c.held-in-Settle.inside.snapshots.items c.settle.ensures.answered)
+
+pub returns-in-Settle-clause-err : goal.returns-in-Settle-clause-err
+returns-in-Settle-clause-err g c = rw (c.in-Settle.is, ← c.held-in-Settle.view_is)
+    (whole_breaks c.args.store.now c.args.seat.now c.settle.new.seat (command.Settle c.in-Settle.names) c.settle.result c.held-in-Settle.inside.txn c.held-in-Settle.inside.txn c.held-in-Settle.inside.snapshots.items c.settle.ensures.err)
+
+pub returns-in-Settle-clause-uncalled : goal.returns-in-Settle-clause-uncalled
+returns-in-Settle-clause-uncalled g c = rw (c.in-Settle.is, ← c.held-in-Settle.view_is) c.settle.ensures.uncalled
