@@ -5,3 +5,4 @@ pub use Rattle.wp_open_txns.specs.Txn
 pub use Rattle.wp_scan.specs.Scan
 pub use Rattle.wp_shared.specs.Ending
 pub use Rattle.wp_shared.specs.Seats
+pub use Rattle.wp_txn.specs.Groups

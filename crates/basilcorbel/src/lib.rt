@@ -8,6 +8,8 @@
 //! - A transaction: `begin` claims a name, `stage` puts a key or deletes it, under a lock, `prepare` writes the changes to the log, and
 //!   `commit` or `rollback` decides them. `commit_now` does without a prepare. `abandon` drops an open one. `leave` gives up a prepared
 //!   one, which outlives the store, and `take_prepared` takes it by its name, in this run or a later one.
+//! - Several at once: `commit_all` commits up to 16 prepared ones by one record. No two of their numbers may have one place in the commit
+//!   cache (`TxnError::Crowded`), which `Group::of` tells of any numbers.
 //! - Its pin: `pin` gives an open transaction a snapshot, `OpenTxn::pinned`. A key that comes to it then, by `stage` or by `lock`, which
 //!   reads it under a lock, has to be unchanged since: else `TxnError::Conflict`. So who reads by `lock` alone is serializable.
 //! - One change at once, by itself: `write`.
@@ -25,6 +27,7 @@
 #![tactic(auto)]
 
 pub use wp_compact::compact;
+pub use wp_group::{Group, GroupError};
 pub use wp_history::History;
 pub use wp_maint::{Done, MaintError, RenewError, Renewed, flush};
 pub use wp_model::{
@@ -40,6 +43,6 @@ pub use wp_renew::renew;
 pub use wp_scan::Scan;
 pub use wp_shared::{Finished, Seat, Shared};
 pub use wp_txn::{
-    Locked, OpenTxn, PreparedTxn, Refused, TxnError, abandon, begin, commit, commit_now, hear,
-    leave, lock, pin, prepare, rollback, stage, take_prepared, tell, write,
+    Locked, OpenTxn, PreparedTxn, Refused, TxnError, abandon, begin, commit, commit_all,
+    commit_now, hear, leave, lock, pin, prepare, rollback, stage, take_prepared, tell, write,
 };

@@ -4,9 +4,11 @@ ghost use Rattle.embedded.specs.Alone.{IsAlone};
 
 use crate::error::BankError;
 use crate::listing::{Listing, list};
+use crate::settling::settle;
 use crate::transfer::{Balances, decide, look, prepare_transfer};
 use basilcorbel::{
-    Change, Disk, Disks, Key, Name, OpenRefused, Seat, Seq, Shared, Value, open_shared, write,
+    Change, Disk, Disks, Key, Name, OpenRefused, Seat, Seq, Shared, Value, leave, open_shared,
+    write,
 };
 use std::alloc::Global;
 use std::fmt;
@@ -21,12 +23,13 @@ const LIMIT: Seq = (1 << 46) - 1;
 /// The number of the store, where it is made.
 const ID: u32 = 1;
 
-/// What came of the transfer, and what all accounts have behind it.
+/// What came of the transfers, and what all accounts have behind them.
 #[derive(Drop)]
 pub(crate) struct Told {
     prepared: Seq,
     decided: Seq,
     balances: Balances,
+    settled: Seq,
     listing: Listing,
 }
 
@@ -55,6 +58,7 @@ impl fmt::Display for Told {
         writeln!(f, "prepared @{}", self.prepared)?;
         writeln!(f, "decided @{}", self.decided)?;
         writeln!(f, "anna {} ben {} @{at}", shown(payer), shown(payee))?;
+        writeln!(f, "settled @{}", self.settled)?;
         write!(f, "accounts @{}", self.listing.at)?;
         for row in &self.listing.rows {
             write!(f, "\n{} {}", text(row.key.bytes()), text(row.value.bytes()))?;
@@ -68,7 +72,52 @@ fn put(alloc: Global, account: &Key, balance: &[u8]) -> Result<Change, BankError
     Ok(Change::Put(account.copy(alloc)?, Value::read(alloc, balance)?))
 }
 
-/// The payer gets 100, and transfers 30 of it to the payee. All accounts are listed behind that.
+/// Prepares a transfer of this name, and lets go of it.
+fn leave_transfer<D: Disk + Drop, R: Wait>(
+    store: &Shared<D>,
+    rt: &R,
+    alloc: Global,
+    seat: &mut Seat<D>,
+    name: &Name,
+    debit: Change,
+    credit: Change,
+) -> Result<(), BankError>
+    requires { IsAlone store.now seat.old }
+    ensures { IsAlone store.now seat.new }
+{
+    let name = name.copy(alloc)?;
+    let prepared = prepare_transfer(store, rt, alloc, seat, name, debit, credit)?;
+    leave(store, rt, seat, prepared);
+    Ok(())
+}
+
+/// Two more transfers come in, 10 from the payer to carl and 5 from the payee to dora. They are decided together.
+fn settle_two<D: Disk + Drop, R: Wait>(
+    store: &Shared<D>,
+    rt: &R,
+    alloc: Global,
+    seat: &mut Seat<D>,
+    accounts: &Accounts,
+) -> Result<Seq, BankError>
+    requires { IsAlone store.now seat.old }
+    ensures { IsAlone store.now seat.new }
+{
+    let Accounts { payer, payee } = accounts;
+    let carl = Key::read(alloc, b"carl")?;
+    let dora = Key::read(alloc, b"dora")?;
+    let morning = Name::read(alloc, b"morning")?;
+    let noon = Name::read(alloc, b"noon")?;
+    let debit = put(alloc, payer, b"60")?;
+    let credit = put(alloc, &carl, b"10")?;
+    leave_transfer(store, rt, alloc, seat, &morning, debit, credit)?;
+    let debit = put(alloc, payee, b"25")?;
+    let credit = put(alloc, &dora, b"5")?;
+    leave_transfer(store, rt, alloc, seat, &noon, debit, credit)?;
+    Ok(settle(store, rt, alloc, seat, &morning, &noon)?)
+}
+
+/// The payer gets 100, and transfers 30 of it to the payee. Two more transfers are decided together behind that, and all accounts are
+/// listed.
 fn serve<D: Disk + Drop, R: Wait>(
     store: &Shared<D>,
     rt: &R,
@@ -89,6 +138,7 @@ fn serve<D: Disk + Drop, R: Wait>(
     let number = prepared.number();
     let decided = decide(store, rt, alloc, seat, prepared)?;
     let balances = look(store, rt, seat, payer, payee)?;
+    let settled = settle_two(store, rt, alloc, seat, accounts)?;
     let first = Key::read(alloc, b"a")?;
     let last = Key::read(alloc, b"z")?;
     let listing = list(store, rt, alloc, seat, &first, &last)?;
@@ -96,11 +146,12 @@ fn serve<D: Disk + Drop, R: Wait>(
         prepared: number,
         decided,
         balances,
+        settled,
         listing,
     })
 }
 
-/// Keeps a store on these devices for one transfer.
+/// Keeps a store on these devices for the transfers.
 pub(crate) fn keep<D: Disk + Drop, R: Wait>(
     rt: &R,
     alloc: Global,

@@ -1,10 +1,12 @@
 //! A program that keeps a store of its own, on three files: a transfer between two accounts is prepared, decided, and read at one
-//! snapshot, and all accounts are listed at another. It names the front door and the kit's library alone.
+//! snapshot; two more are decided by one record, and all accounts are listed at another snapshot. It names the front door and the kit's
+//! library alone.
 #![tactic(auto)]
 
 mod bank;
 mod error;
 mod listing;
+mod settling;
 mod transfer;
 
 use crate::bank::keep;

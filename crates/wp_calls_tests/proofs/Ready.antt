@@ -1,8 +1,10 @@
 -- What each call leaves of a client that was ready.
-use Rattle.std.proofs.Common.{◌≡◌, ⊎_elim, inl, inr, ℕ, ◌≤◌, Bool, true, false, List, [], ◌∷◌, ◌++◌, length, refl, sym, subst, ap, ◌∙◌, Option, Some, None, arith}
-use Rattle.std.specs.Prelude.{IfSome, Result, Ok, Err}
+use Rattle.std.proofs.Common.{◌≡◌, ◌≢◌, ⊎_elim, inl, inr, ℕ, zero, suc, ◌≤◌, Bool, true, false, List, [], ◌∷◌, ◌++◌, length, refl, sym, subst, ap, ◌∙◌, Option, Some, None, arith}
+use Rattle.std.specs.Prelude.{IfSome, AllPairs, Result, Ok, Err}
 use Rattle.std.specs.FinMap as finite
+use Rattle.std.specs.Str.{bytes_eq}
 use Rattle.std.proofs.lemmas.Bool.{cases_lt}
+use Rattle.std.proofs.lemmas.Slice.Eq.{bytes_eq-Decides}
 use Rattle.wp_model.specs.declared.change.Change.{Change}
 use Rattle.wp_model.specs.declared.entry.Entry.{Entry}
 use Rattle.wp_model.specs.declared.entry.Entry.TheVariants.{Write}
@@ -10,6 +12,7 @@ use Rattle.wp_model.specs.Batch.{key_of}
 use Rattle.wp_model.specs.History.{entry_at}
 use Rattle.wp_model.specs.LockState.{is_among_keys}
 use Rattle.wp_model.proofs.Entries.{entry_at_old, entry_at_past}
+use Rattle.wp_model.proofs.Keyed.{else_inserted, else_removed}
 use Rattle.wp_history_laws.proofs.Growth.{entry_at_next, length_next}
 use Rattle.wp_core.specs.Lists.{IsIn}
 use Rattle.wp_core.specs.Reading.{Registration}
@@ -21,11 +24,13 @@ use Rattle.wp_core.proofs.KeepsSeen.{shorter}
 use Rattle.wp_shared.specs.Calls.{ContinuesWith, Continues, IsLoose}
 use Rattle.wp_shared.specs.Seats.{SharedState, SeatState}
 use Rattle.wp_open_txns.specs.declared.error.TxnError.{TxnError}
-use Rattle.wp_open_txns.specs.declared.error.TxnError.TheVariants.{Memory, Busy, TooMany, Conflict, NumbersFull, LogFault, Stopped}
+use Rattle.wp_open_txns.specs.declared.error.TxnError.TheVariants.{Memory, Busy, TooMany, Conflict, Unknown, InUse, NumbersFull, LogFault, Stopped}
 use Rattle.wp_open_txns.specs.declared.validating.Locked.{Locked}
 use Rattle.wp_open_txns.specs.declared.validating.Locked.TheVariants.{Own, Read}
-use Rattle.wp_open_txns.specs.Calls.{Changes, Pins, LocksForRead, locking}
+use Rattle.wp_open_txns.specs.Calls.{Changes, Pins, LocksForRead, Takes, TakesPrepared, GivesUp, locking}
+use Rattle.wp_open_txns.specs.Turns.{IsApartFrom}
 use Rattle.wp_open_txns.specs.Txn.{OpenState, PreparedState, has_key, HasOpen, HasPrepared}
+use Rattle.wp_txn.specs.Groups.{ArePrepared}
 use Rattle.wp_txn.specs.Writes.{Refuses, WritesDirect}
 use Rattle.wp_maint.specs.declared.done.Done.{Done}
 use Rattle.wp_maint.specs.declared.error.MaintError.{MaintError}
@@ -58,6 +63,19 @@ last_version seen history entry n is ends has =
     ap (λ (h : List Entry). has_versions_at h n) ends
     ∙ (ap (has_versions_at (history ++ entry ∷ [])) (is ∙ (ap (λ (h : List Entry). length h) ends ∙ length_next history entry)) ∙ (ap has_versions (entry_at_next history entry) ∙ has))
 
+not_equal : (a b : List ℕ) → a ≢ b → (t : Bool) → bytes_eq a b ≡ t → t ≡ false
+not_equal a b ne true e = absurd (ne ((bytes_eq-Decides a b).0 e))
+not_equal a b ne false e = refl
+
+two_differ : (a b : List ℕ) → a ≢ b → AllPairs ◌≢◌ (a ∷ b ∷ [])
+two_differ a b ne zero zero d below within = absurd (omega (arith, below))
+two_differ a b ne zero (suc zero) d below within = ne
+two_differ a b ne zero (suc (suc j)) d below within = absurd (omega (arith, within))
+two_differ a b ne (suc i) j d below within = absurd (omega (arith, below, within))
+
+pub both_prepared : (s : SeatState) (txns : List PreparedState) (first second : PreparedState) → txns ≡ first ∷ second ∷ [] → HasPrepared s first → HasPrepared s second → second.name ≢ first.name → ArePrepared s txns
+both_prepared s txns first second are has_first has_second apart = subst (ArePrepared s) (sym are) ((has_first, (has_second, tt)), two_differ first.name second.name (λ same. apart (sym same)))
+
 if_stays : {A : Type 0} (P Q : A → Type 0) (o : Option A) → ((x : A) → P x → Q x) → IfSome o P → IfSome o Q
 if_stays P Q None f k = tt
 if_stays P Q (Some x) f k = f x k
@@ -75,18 +93,23 @@ module _ {D : Type 0} (z : SharedState D) (old new : SeatState) (direct : old.kn
     has_prepared = has_p;
   }
 
-  -- ... which has the prepared transaction still
-  kept_with : (Stays : Fact → Type 0) → ((name : List ℕ) (n : ℕ) → Stays (undecided_at name n)) → (after : Participant) (goes : ContinuesWith Stays z old new after) → after.transactions ≡ old.knows.participant.transactions → after.direct ≡ old.knows.participant.direct
-      → (p : Option PreparedState) → IfSome p (HasPrepared old) → IsWriter z new None p
-  kept_with Stays stays after goes same as_before p has = wrote Stays after goes None p (as_before ∙ direct) tt (if_stays _ _ p (λ t h. record {
+  -- what it has prepared it has still
+  prepared_still : (Stays : Fact → Type 0) (after : Participant) (goes : ContinuesWith Stays z old new after) (t : PreparedState) → Stays (undecided_at t.name t.number)
+      → finite.get after.transactions t.name ≡ finite.get old.knows.participant.transactions t.name → HasPrepared old t → HasPrepared new t
+  prepared_still Stays after goes t stays same h = record {
     transaction = h.transaction;
-    has = ap (λ (x : Participant). finite.get x.transactions t.name) goes.participant ∙ (ap (λ ts. finite.get ts t.name) same ∙ h.has);
+    has = ap (λ (x : Participant). finite.get x.transactions t.name) goes.participant ∙ (same ∙ h.has);
     batch_is = h.batch_is;
     keys = h.keys;
-    noted = goes.notes (undecided_at t.name t.number) (stays t.name t.number) h.noted;
+    noted = goes.notes (undecided_at t.name t.number) stays h.noted;
     seen = let more = shorter new.knows.participant.seen old.knows.participant.seen goes.seen in let low = h.seen in omega (arith, more, low);
     stands = let s = goes.seen in ap (λ (l : List Entry). entry_at l t.number) s.1 ∙ (entry_at_old old.knows.participant.seen s.0 t.number h.seen ∙ h.stands);
-  }) has)
+  }
+
+  kept_with : (Stays : Fact → Type 0) → ((name : List ℕ) (n : ℕ) → Stays (undecided_at name n)) → (after : Participant) (goes : ContinuesWith Stays z old new after) → after.transactions ≡ old.knows.participant.transactions → after.direct ≡ old.knows.participant.direct
+      → (p : Option PreparedState) → IfSome p (HasPrepared old) → IsWriter z new None p
+  kept_with Stays stays after goes same as_before p has =
+      wrote Stays after goes None p (as_before ∙ direct) tt (if_stays _ _ p (λ t h. prepared_still Stays after goes t (stays t.name t.number) (ap (λ ts. finite.get ts t.name) same) h) has)
 
   kept : (after : Participant) (goes : Continues z old new after) → after.transactions ≡ old.knows.participant.transactions → after.direct ≡ old.knows.participant.direct
       → (p : Option PreparedState) → IfSome p (HasPrepared old) → IsWriter z new None p
@@ -128,6 +151,29 @@ module _ {D : Type 0} (z : SharedState D) (old new : SeatState) (direct : old.kn
   locked txn key (Err (Conflict number)) left (no_change, k) = wrote IsLoose _ k.4.goes_on (Some left) None direct k.1 tt
   locked txn key (Err Memory) left c = ⊎_elim (λ keeps. wrote IsLoose _ keeps (Some left) None direct c.1 tt) (λ given. wrote IsLoose _ given.goes_on (Some left) None direct c.1 tt) c.3
   locked txn key (Err other) left (no_change, k) = absurd k
+
+  -- ---- two prepared transactions
+
+  pub not_taken : (name : List ℕ) (why : TxnError) (t : PreparedState) → HasPrepared old t → TakesPrepared z old name (Err why) new → IsWriter z new None (Some t)
+  not_taken name (Unknown other at) t has c = kept _ c.3 refl refl (Some t) has
+  not_taken name (InUse other) t has c = kept _ c.1.goes_on refl refl (Some t) has
+  not_taken name Memory t has c = kept _ c refl refl (Some t) has
+  not_taken name other t has c = absurd c
+
+  pub taken : (name : List ℕ) (t left : PreparedState) → HasPrepared old t → Takes z old name left new → IsWriter z new None None × HasPrepared new left × HasPrepared new t × (t.name ≢ left.name)
+  taken name t left has c =
+      let apart : t.name ≢ name = λ same. let e : Some has.transaction ≡ None = sym has.has ∙ (ap (finite.get old.knows.participant.transactions) same ∙ c.not_had) in absurd cc in (
+        wrote IsLoose _ c.goes_on None None direct tt tt,
+        c.has,
+        prepared_still IsLoose _ c.goes_on t refl (else_inserted old.knows.participant.transactions name c.has.transaction t.name apart) has,
+        (λ same. apart (same ∙ c.name_is)),
+      )
+
+  -- another one is left
+  pub left_beside : (t left : PreparedState) → t.name ≢ left.name → HasPrepared old t → GivesUp z old new left.name → IsWriter z new None (Some t)
+  left_beside t left apart has c =
+      wrote (IsApartFrom left.name) _ c None (Some t) direct tt
+      (prepared_still (IsApartFrom left.name) _ c t (refl, not_equal left.name t.name (λ same. apart (sym same)) (bytes_eq left.name t.name) refl) (else_removed old.knows.participant.transactions left.name t.name apart) has)
 
   -- ---- a direct write
 

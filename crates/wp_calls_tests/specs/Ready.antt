@@ -1,5 +1,5 @@
 -- What two clients have between two steps.
-use Rattle.std.specs.Prelude.{◌≡◌, ℕ, true, Option, None, IfSome}
+use Rattle.std.specs.Prelude.{◌≡◌, ◌≢◌, ℕ, true, List, [], ◌∷◌, Option, None, IfSome}
 use Rattle.wp_core.specs.Lists.{IsIn}
 use Rattle.wp_core.specs.Reading.{Registration}
 use Rattle.wp_core.specs.Sound.Snapshots.{has_versions_at}
@@ -12,6 +12,15 @@ pub record IsWriter {D : Type 0} (z : SharedState D) (s : SeatState) (begun : Op
   pub direct : s.knows.participant.direct ≡ None
   pub has_begun : IfSome begun (HasOpen s)
   pub has_prepared : IfSome prepared (HasPrepared s)
+
+-- these are two prepared transactions of the seat's, of different names
+pub record HasBoth (s : SeatState) (txns : List PreparedState) : Type 0 where
+  pub first : PreparedState
+  pub second : PreparedState
+  pub are : txns ≡ first ∷ second ∷ []
+  pub has_first : HasPrepared s first
+  pub has_second : HasPrepared s second
+  pub apart : second.name ≢ first.name
 
 -- The seat is free and writes nothing directly. The client's snapshot is registered, and the entry with its version's number has versions.
 pub record IsReader {D : Type 0} (z : SharedState D) (s : SeatState) (snapshot : Option Registration) (version : Option ℕ) : Type 0 where

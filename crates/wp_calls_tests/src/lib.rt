@@ -10,6 +10,8 @@
 #![tactic(auto)]
 
 #[cfg(test)]
+mod groups;
+#[cfg(test)]
 mod pairs;
 #[cfg(test)]
 mod pins;

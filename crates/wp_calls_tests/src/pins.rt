@@ -9,7 +9,7 @@ use std::test::*;
 
 const LOCKS: &[Step] = &[
     Step::One(Writing::Direct(b"k", b"1", 1)),
-    Step::One(Writing::Begin),
+    Step::One(Writing::Begin(b"t")),
     Step::One(Writing::Pin(1)),
     Step::Two(Reading::Direct(b"x", b"2", 2)),
     Step::One(Writing::Lock(b"k", Some(b"1"))),
@@ -25,5 +25,5 @@ const LOCKS: &[Step] = &[
 
 #[test]
 fn what_is_locked_is_what_stood_at_the_pin(rt: HostRuntime) {
-    play(&rt, rt.alloc(), "locks behind a pin", LOCKS);
+    play(&rt, rt.alloc(), "locks behind a pin", 0, LOCKS);
 }

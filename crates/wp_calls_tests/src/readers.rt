@@ -9,7 +9,7 @@ use crate::writer::Writing;
 use std::test::*;
 
 const PREPARE_AT_3: &[Step] = &[
-    Step::One(Writing::Begin),
+    Step::One(Writing::Begin(b"t")),
     Step::One(Writing::Put(b"k", b"1")),
     Step::One(Writing::Prepare(1)),
     Step::TwoLearns(1),
@@ -31,7 +31,7 @@ const PREPARE_AT_3: &[Step] = &[
 ];
 
 const WRITE_AT_3: &[Step] = &[
-    Step::One(Writing::Begin),
+    Step::One(Writing::Begin(b"t")),
     Step::One(Writing::Put(b"k", b"1")),
     Step::One(Writing::Prepare(1)),
     Step::One(Writing::Direct(b"x", b"1", 2)),
@@ -52,7 +52,7 @@ const WRITE_AT_3: &[Step] = &[
 ];
 
 const PAIR_GOES: &[Step] = &[
-    Step::One(Writing::Begin),
+    Step::One(Writing::Begin(b"t")),
     Step::One(Writing::Put(b"z", b"0")),
     Step::One(Writing::Prepare(1)),
     Step::One(Writing::Leave),
@@ -74,7 +74,7 @@ const PAIR_GOES: &[Step] = &[
 ];
 
 const COMMIT_BEHIND: &[Step] = &[
-    Step::One(Writing::Begin),
+    Step::One(Writing::Begin(b"t")),
     Step::One(Writing::Put(b"k", b"5")),
     Step::One(Writing::Prepare(1)),
     Step::TwoLearns(1),
@@ -95,7 +95,7 @@ const COMMIT_BEHIND: &[Step] = &[
 ];
 
 const DELAYED: &[Step] = &[
-    Step::One(Writing::Begin),
+    Step::One(Writing::Begin(b"t")),
     Step::One(Writing::Put(b"k", b"5")),
     Step::One(Writing::Prepare(1)),
     Step::TwoLearns(1),
@@ -123,7 +123,7 @@ const DELAYED: &[Step] = &[
 
 const ROLLBACK_BEHIND: &[Step] = &[
     Step::One(Writing::Direct(b"k", b"1", 1)),
-    Step::One(Writing::Begin),
+    Step::One(Writing::Begin(b"t")),
     Step::One(Writing::Put(b"k", b"2")),
     Step::One(Writing::Prepare(2)),
     Step::TwoLearns(2),
@@ -156,6 +156,6 @@ const CASES: [(&str, &[Step]); 6] = [
 #[test]
 fn a_split_reader_decides_as_at_once(rt: HostRuntime) {
     for (name, steps) in CASES {
-        play(&rt, rt.alloc(), name, steps);
+        play(&rt, rt.alloc(), name, 0, steps);
     }
 }

@@ -9,7 +9,7 @@ use crate::writer::Writing;
 use std::test::*;
 
 const SCAN: &[Step] = &[
-    Step::One(Writing::Begin),
+    Step::One(Writing::Begin(b"t")),
     Step::One(Writing::Put(b"a", b"1")),
     Step::One(Writing::Put(b"c", b"1")),
     Step::One(Writing::Prepare(1)),
@@ -18,7 +18,7 @@ const SCAN: &[Step] = &[
     Step::One(Writing::Direct(b"d", b"1", 5)),
     Step::One(Writing::Direct(b"f", b"1", 6)),
     Step::Two(Reading::Move(Moving::Flush, 6, 7)),
-    Step::One(Writing::Begin),
+    Step::One(Writing::Begin(b"t")),
     Step::One(Writing::Put(b"e", b"1")),
     Step::One(Writing::Prepare(7)),
     Step::Two(Reading::Snap(7)),
@@ -40,5 +40,5 @@ const SCAN: &[Step] = &[
 
 #[test]
 fn rows_are_those_of_the_snapshot(rt: HostRuntime) {
-    play(&rt, rt.alloc(), "what comes between two rows", SCAN);
+    play(&rt, rt.alloc(), "what comes between two rows", 0, SCAN);
 }

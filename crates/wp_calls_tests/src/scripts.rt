@@ -1,5 +1,5 @@
 //! Scripts: what two clients of a store do, and what it says, step by step.
-ghost use Rattle.std.specs.Prelude.{◌≡◌, true, IfSome};
+ghost use Rattle.std.specs.Prelude.{◌≡◌, ◌≤◌, true, IfSome};
 ghost use Rattle.wp_core.specs.Sound.Snapshots.{has_versions_at};
 ghost use Rattle.wp_calls_tests.specs.Ready.{IsReader, IsWriter};
 
@@ -150,14 +150,16 @@ fn begun<R: Abort>(rt: &R, alloc: Global) -> Scan {
     scan
 }
 
-/// Opens a store with one word in its cache, takes the steps and ends it.
-pub(super) fn play<R: Abort + Wait>(rt: &R, alloc: Global, name: &str, steps: &[Step]) {
+/// Opens a store with a commit cache of so many bits, at most 16, takes the steps and ends it.
+pub(super) fn play<R: Abort + Wait>(rt: &R, alloc: Global, name: &str, bits: u32, steps: &[Step])
+    requires { bits ≤ 16 }
+{
     let Seats {
         store,
         first,
         mut writing,
         mut reading,
-    } = opened(rt, alloc, 0);
+    } = opened(rt, alloc, bits);
     let mut scan = begun(rt, alloc);
     let mut held = Held::of(None, None, None, None, None);
     for (place, step) in steps.iter().enumerate() {

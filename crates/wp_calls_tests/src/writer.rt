@@ -1,10 +1,10 @@
 //! The client that writes: its calls on transactions.
-ghost use Rattle.std.specs.Prelude.{◌≡◌, true, Some, IfSome};
+ghost use Rattle.std.specs.Prelude.{◌≡◌, true, [], ◌∷◌, Some, None, IfOk, IfErr, IfSome};
 ghost use Rattle.wp_core.specs.Sound.Snapshots.{has_versions_at};
-ghost use Rattle.wp_calls_tests.specs.Ready.{IsWriter};
+ghost use Rattle.wp_calls_tests.specs.Ready.{IsWriter, HasBoth};
 
 use crate::stores::name;
-use std::alloc::Global;
+use std::alloc::{AllocFailed, Global};
 use std::process::Abort;
 use std::sync::Wait;
 use wp_memory::MemDisk;
@@ -12,10 +12,10 @@ use wp_model::{Change, Key, Seq, Value};
 use wp_shared::{Seat, Shared};
 use wp_txn::{Locked, OpenTxn, PreparedTxn, Refused, TxnError};
 
-/// What the client does. Its transaction has the name `t`, and a number is the one that the call has to answer.
+/// What the client does. A number is the one that the call has to answer.
 #[derive(Clone, Copy)]
 pub(super) enum Writing {
-    Begin,
+    Begin(&'static [u8]),
     Put(&'static [u8], &'static [u8]),
     Pin(Seq),
     /// It locks a key of which it has no change, and reads this value.
@@ -24,9 +24,14 @@ pub(super) enum Writing {
     Conflict(&'static [u8], Seq),
     Prepare(Seq),
     Commit(Seq),
+    /// It commits its prepared transaction behind the one that was left under this name, by one record.
+    CommitBoth(&'static [u8], Seq),
+    /// It would do so, but these numbers of the two have one place in the cache.
+    Crowded(&'static [u8], Seq, Seq),
     Rollback(Seq),
     /// It leaves the prepared transaction.
     Leave,
+    /// It takes the one that was left under the name `t`.
     Take,
     /// It puts a value under a key at once.
     Direct(&'static [u8], &'static [u8], Seq),
@@ -123,6 +128,75 @@ fn take<R: Abort + Wait>(
     }
 }
 
+/// Leaves the first of two prepared transactions, and keeps the second.
+fn leave_first<R: Wait>(
+    store: &Shared<MemDisk>,
+    rt: &R,
+    seat: &mut Seat<MemDisk>,
+    mut both: Vec<PreparedTxn>,
+) -> PreparedTxn
+    requires seat { IsWriter store.now seat.old None None }
+    requires both { HasBoth seat.old both.items }
+    ensures { IsWriter store.now seat.new None (Some result) }
+{
+    let kept = both.remove(1);
+    let left = both.remove(0);
+    both.destroy_empty();
+    wp_txn::leave(store, rt, seat, left);
+    kept
+}
+
+/// The two in a list, or as they were where memory is wanting.
+fn listed(
+    alloc: Global,
+    first: PreparedTxn,
+    second: PreparedTxn,
+) -> Result<Vec<PreparedTxn>, (PreparedTxn, PreparedTxn)>
+    ensures both { IfOk result (λ both. both.items ≡ first ∷ second ∷ []) }
+    ensures refused { IfErr result (λ two. two ≡ (first, second)) }
+{
+    match Vec::from_array(alloc, [first, second]) {
+        Ok(both) => Ok(both),
+        Err(failed) => {
+            let AllocFailed { value } = failed;
+            let [first, second] = value;
+            Err((first, second))
+        }
+    }
+}
+
+/// Commits the prepared transaction behind the one that was left under this name. Behind a refusal that one is left again.
+fn commit_both<R: Abort + Wait>(
+    store: &Shared<MemDisk>,
+    rt: &R,
+    alloc: Global,
+    seat: &mut Seat<MemDisk>,
+    txn: PreparedTxn,
+    other: &[u8],
+) -> (Option<PreparedTxn>, Result<Seq, TxnError>)
+    requires { IsWriter store.now seat.old None (Some txn) }
+    ensures { IsWriter store.now seat.new None result.0 }
+{
+    let left = match wp_txn::take_prepared(store, rt, alloc, seat, &name(rt, alloc, other)) {
+        Ok(left) => left,
+        Err(why) => return (Some(txn), Err(why)),
+    };
+    let both = match listed(alloc, left, txn) {
+        Ok(both) => both,
+        Err((left, txn)) => {
+            wp_txn::leave(store, rt, seat, left);
+            return (Some(txn), Err(TxnError::Memory));
+        }
+    };
+    match wp_txn::commit_all(store, rt, alloc, seat, both) {
+        Ok(n) => (None, Ok(n)),
+        Err(Refused { txn: both, why }) => {
+            let kept = leave_first(store, rt, seat, both);
+            (Some(kept), Err(why))
+        }
+    }
+}
+
 /// Takes the step.
 pub(super) fn write<R: Abort + Wait>(
     store: &Shared<MemDisk>,
@@ -138,8 +212,8 @@ pub(super) fn write<R: Abort + Wait>(
     ensures version { IfSome result.2 (λ p. has_versions_at seat.new.knows.participant.seen p ≡ true) }
 {
     match (step, begun, prepared) {
-        (Writing::Begin, None, None) => {
-            match wp_txn::begin(store, rt, alloc, seat, name(rt, alloc, b"t")) {
+        (Writing::Begin(bytes), None, None) => {
+            match wp_txn::begin(store, rt, alloc, seat, name(rt, alloc, bytes)) {
                 Ok(txn) => (Some(txn), None, None, Some(true)),
                 Err(why) => (None, None, None, refused(why)),
             }
@@ -184,6 +258,23 @@ pub(super) fn write<R: Abort + Wait>(
                 Ok(n) => (None, None, None, Some(n == at)),
                 Err(Refused { txn, why }) => (None, Some(txn), None, refused(why)),
             }
+        }
+        (Writing::CommitBoth(other, at), None, Some(txn)) => {
+            let (kept, made) = commit_both(store, rt, alloc, seat, txn, other);
+            let outcome = match made {
+                Ok(n) => Some(n == at),
+                Err(why) => refused(why),
+            };
+            (None, kept, None, outcome)
+        }
+        (Writing::Crowded(other, p, q), None, Some(txn)) => {
+            let (kept, made) = commit_both(store, rt, alloc, seat, txn, other);
+            let outcome = match made {
+                Ok(_n) => Some(false),
+                Err(TxnError::Crowded { first, second }) => Some(first == p && second == q),
+                Err(why) => refused(why),
+            };
+            (None, kept, None, outcome)
         }
         (Writing::Rollback(at), None, Some(txn)) => {
             match wp_txn::rollback(store, rt, alloc, seat, txn) {
