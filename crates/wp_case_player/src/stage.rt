@@ -200,7 +200,10 @@ pub(crate) fn is_whole(stages: &[Stage], text: &[u8], is_none: bool) -> bool {
 /// Whether the reply acknowledges a record.
 fn acknowledges(reply: &str) -> bool {
     match reply.split_once(" @") {
-        Some((verb, _)) => matches!(verb, "put" | "del" | "prepare" | "commit" | "rollback"),
+        Some((verb, _)) => matches!(
+            verb,
+            "put" | "del" | "prepare" | "commit" | "rollback" | "settled"
+        ),
         None => false,
     }
 }
