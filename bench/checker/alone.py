@@ -1,8 +1,8 @@
 """One client alone: what is due at each of its commands, when nobody else changes the store."""
 from dataclasses import dataclass, field, replace
 
+from .client import LOGGED, Client, after, asked, first_crowded, is_at, refusal
 from .history import Edit, History, has, in_order, retained
-from .session import Client, after, asked, is_at, refusal
 from .texts import need
 
 
@@ -13,13 +13,18 @@ class Alone:
     history: History
     edit: Edit
     limits: tuple  # of the log as it was opened, and once it was renewed
+    cells: int  # how many words the commit cache has
     stopped: bool = False
     halted: bool = False
     board: dict = field(default_factory=dict)
     locked: dict = field(default_factory=dict)  # of each prepare since the opening: the keys that its transaction had locked without a change
 
+    def asked(self, client, command):
+        numbers = [self.history.named(name) for name in command[1:]] if command[0] == "settle" else ()
+        return asked(client, command, numbers)
+
     def logs(self, client, command, answer):
-        needed = len(asked(client, command))
+        needed = len(self.asked(client, command))
         if self.stopped:
             return ("stopped", len(self.history))
         limit = self.limits[0]
@@ -48,6 +53,8 @@ class Alone:
             if kind == "begin":
                 return ("taken", command[1]) if named else ("begun",)
             return ("took",) if named else ("unknown", command[1], published)
+        if kind == "settle":
+            return self.due_settle(client, command)
         if kind in ("prepare", "commit"):
             return self.logs(client, command, (kind, published + 1))
         if kind == "rollback":
@@ -78,6 +85,14 @@ class Alone:
             return ("missing own",) if dict(own)[key] is None else ("get own", dict(own)[key])
         value = self.history.value(key, at)
         return ("missing", at) if value is None else ("get", value, at)
+
+    def due_settle(self, client, command):
+        published, names = len(self.history), command[1:]
+        unknown = next((name for name in names if self.history.named(name) is None), None)
+        if unknown is not None:
+            return ("unknown", unknown, published)
+        crowded = first_crowded(self.cells, [self.history.named(name) for name in names])
+        return ("crowded", *crowded) if crowded else self.logs(client, command, ("settled", published + len(names), len(names)))
 
     def due_tables(self, client, kind):
         published = len(self.history)
@@ -115,8 +130,8 @@ class Alone:
             self.limits = self.limits[1:] * 2 if form == "renewed" else self.limits
         elif form == "compacted":
             self.edit = replace(self.edit, versions=self.kept(client), tables=min(answer[2], 1))
-        elif form in ("put", "del", "prepare", "commit", "rollback"):
-            for entry in asked(client, command):
+        elif form in LOGGED:
+            for entry in self.asked(client, command):
                 batch = self.history.prior(self.history.batch(entry.number)) if entry.kind == "undo" else entry.batch
                 self.history.add(replace(entry, batch=batch))
         elif form == "told":
@@ -126,12 +141,12 @@ class Alone:
         return after(client, command, answer, prepare)
 
 
-def check_alone(part, found, edit, limits):
+def check_alone(part, found, edit, limits, cells):
     """Each reply is the one that is due; returns the store that is left."""
-    store, client = Alone(found.copy(), edit, limits), Client()
+    store, client = Alone(found.copy(), edit, limits, cells), Client()
     for line, (command, answer) in enumerate(zip(part.commands, part.answers), 1):
         due = store.due(client, command)
-        logs = due[0] in ("put", "del", "prepare", "commit", "rollback", "renewed")
+        logs = due[0] in LOGGED or due[0] == "renewed"
         fails = answer == ("fault log",) and logs or answer == ("fault tables",) and due[0] in ("flushed", "compacted", "renewed")
         need(answer == due or fails, "due", f"line {line}, `{' '.join(command)}`: `{part.lines[line - 1]}`, and {due} is due")
         client = store.take(client, command, answer)

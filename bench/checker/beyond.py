@@ -1,9 +1,12 @@
 """What several clients may not be answered, though the table of replies leaves it open: by what must have come before what."""
-from .session import Client, after, fresh_number
+from .client import Client, after, fresh_number, names_taken
 from .texts import need
 
 
 def acknowledged(answer):
+    """The numbers of the entries that the reply acknowledges, which are one record of the log."""
+    if answer[0] == "settled":
+        return [*range(answer[1] - answer[2] + 1, answer[1] + 1)]
     if answer[0] in ("put", "del", "prepare", "commit"):
         return [answer[1]]
     return [answer[1] - 1, answer[1]] if answer[0] == "rollback" else []
@@ -33,6 +36,16 @@ def check_locks(history, part):
                 need(change is None, "exclusive", f"client {part.client}, line {line}: entry {change} changes {key}, which transaction {client.name} has")
         client = after(client, command, answer, 0)
         since = since if client.state == "open" else {}
+
+
+def check_settles(history, part):
+    """What a settle has taken when it is refused is undecided still at the number that it is told: nobody else decides it meanwhile."""
+    for line, (command, answer) in enumerate(zip(part.commands, part.answers), 1):
+        if command[0] != "settle" or answer[0] not in ("unknown", "stopped", "full"):
+            continue
+        n = answer[2] if answer[0] == "unknown" else answer[1]
+        for name in names_taken(command, answer):
+            need(history.named(name, n) is not None, "taken", f"client {part.client}, line {line}: among the first {n} entries no prepare named {name} is undecided")
 
 
 def check_board(parts, opened):

@@ -46,6 +46,7 @@ class History:
         self.counts = [0]  # how many versions the entries have, up to each
         self.prepares = {}  # the prepares of each name
         self.changed = {}  # the entries that have a version of each key
+        self.firsts = set()  # the numbers with which records begin, where they were read of a log
         for p, entry in self.carried.items():
             self.prepares.setdefault(entry.name, []).append(p)
         for entry in entries:
@@ -365,6 +366,7 @@ def history_in(data, place=0, versions=()):
             store.setdefault(key, value)
     history = History((), base, {key: value for key, value in store.items() if value is not None}, carried)
     for record in found:
+        history.firsts.add(len(history) + 1)
         for entry in entries_of(record, len(history) + 1, version):
             fault = history.fault(entry)
             if fault:

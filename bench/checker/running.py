@@ -26,6 +26,19 @@ def transactions(client, count):
     return [line for i in range(count) for line in (f"begin t{client}", f"put c{client}k{i % 10} {i % 10}", "prepare", "commit")]
 
 
+def left_prepared(count):
+    """So many transactions of one key each, prepared and left."""
+    return [line for n in range(count) for line in (f"begin p{n}", f"put q{n} 1", "prepare", "leave")]
+
+
+def takes_and_commits(first, count):
+    return [line for n in range(first, first + count) for line in (f"take p{n}", "commit")]
+
+
+def settle(first, count):
+    return " ".join(["settle", *(f"p{n}" for n in range(first, first + count))])
+
+
 def gets(client, count, keys):
     random = Random(client)
     return [f"get k{random.randrange(keys)}" for _ in range(count)]

@@ -2,122 +2,9 @@
 from collections import Counter
 from dataclasses import dataclass, field, replace
 
-from .history import MOST_KEYS, MOST_SNAPSHOTS, Edit, Entry, History, has, with_change
+from .client import Client, after, asked, change_of, first_crowded, fresh_number, is_at, names_taken, refusal
+from .history import Edit, Entry, History, has
 from .texts import Wrong, need
-
-# The replies that say up to which entry the client has seen the history.
-FRESH = {"put", "del", "get", "missing", "rows", "snap", "pinned", "prepare", "commit", "rollback", "told", "heard", "unknown", "flushed", "compacted", "renewed"}
-
-
-# ---- clients
-
-
-@dataclass(frozen=True)
-class Client:
-    """A client between two commands: its transaction, and the numbers of its snapshots under their labels."""
-
-    state: str = "idle"  # or open, or prepared
-    name: str = ""  # of an open transaction
-    batch: tuple = ()
-    locked: tuple = ()  # the keys that it locked without a change
-    pin: int | None = None
-    prepare: int = 0  # of a prepared one
-    snapshots: tuple = ()
-
-    def snapshot(self, label):
-        return dict(self.snapshots).get(label)
-
-    def own(self, history):
-        return history.batch(self.prepare) if self.state == "prepared" else self.batch
-
-    def has_key(self, key):
-        """Whether the open transaction has the key, changed or locked."""
-        return has(self.batch, key) or key in self.locked
-
-    def has_room(self, key):
-        return len(self.batch) + len(self.locked) < MOST_KEYS or self.has_key(key)
-
-
-def refusal(client, command):
-    """What the client's own transaction and snapshots refuse, whatever the store has."""
-    kind = command[0]
-    if kind in ("put", "del"):
-        if client.state == "prepared":
-            return ("state",)
-        if client.state == "open" and not client.has_room(command[1]):
-            return ("toomany",)
-    if kind in ("pin", "lock", "prepare") and client.state != "open":
-        return ("state",)
-    if kind == "lock" and not client.has_room(command[1]):
-        return ("toomany",)
-    if kind in ("begin", "take", "scan") and client.state != "idle":
-        return ("state",)
-    if kind in ("commit", "rollback") and client.state == "idle":
-        return ("state",)
-    if kind == "leave" and client.state != "prepared":
-        return ("state",)
-    if kind == "free" and client.snapshot(command[1]) is None:
-        return ("unknown snapshot", command[1])
-    if is_at(command) and client.snapshot(command[-1]) is None:
-        return ("unknown snapshot", command[-1])
-    if kind == "snap":
-        if client.snapshot(command[1]) is not None:
-            return ("taken", command[1])
-        if len(client.snapshots) >= MOST_SNAPSHOTS:
-            return ("toomany",)
-    return None
-
-
-def is_at(command):
-    """Whether it reads at a snapshot of the client's."""
-    return (command[0], len(command)) in (("get", 4), ("scan", 5))
-
-
-def change_of(command):
-    """The key and the value of a put or a del."""
-    return command[1], command[2] if command[0] == "put" else None
-
-
-def after(client, command, answer, prepare):
-    """The client once it has the reply; `took` gives it the prepare."""
-    form, kind = answer[0], command[0]
-    if form == "held":
-        locked = tuple(key for key in client.locked if key != command[1])
-        return replace(client, batch=with_change(client.batch, *change_of(command)), locked=locked)
-    if kind == "lock" and form in ("get", "missing") and command[1] not in client.locked:
-        return replace(client, locked=(*client.locked, command[1]))
-    if form == "pinned":
-        return replace(client, pin=answer[1])
-    if form == "snap":
-        return replace(client, snapshots=(*client.snapshots, (command[1], answer[1])))
-    if form == "freed":
-        return replace(client, snapshots=tuple(it for it in client.snapshots if it[0] != command[1]))
-    if form == "begun":
-        return replace(client, state="open", name=command[1])
-    if form == "took":
-        return replace(client, state="prepared", prepare=prepare, name=command[1])
-    if form == "prepare":
-        return replace(client, state="prepared", prepare=answer[1], batch=(), locked=(), pin=None)
-    if form in ("commit", "dropped", "rollback", "left") and kind in ("commit", "rollback", "leave"):
-        return replace(client, state="idle", name="", batch=(), locked=(), pin=None, prepare=0)
-    return client
-
-
-def asked(client, command):
-    """The entries that the command asks the log for: those of a rollback without what its keys had."""
-    kind = command[0]
-    if kind in ("put", "del") and client.state == "idle":
-        return [Entry("write", batch=(change_of(command),))]
-    if kind == "prepare" and client.state == "open":
-        return [Entry("prepare", name=client.name, batch=client.batch)]
-    if kind == "commit" and client.state == "open":
-        return [Entry("write", batch=client.batch)]
-    if kind == "commit" and client.state == "prepared":
-        return [Entry("commit", number=client.prepare)]
-    if kind == "rollback" and client.state == "prepared":
-        return [Entry("undo", number=client.prepare), Entry("close", number=client.prepare)]
-    return []
-
 
 # ---- what is known of the others
 
@@ -126,7 +13,7 @@ def asked(client, command):
 class Known:
     """What a client's commands and replies say to the others."""
 
-    names: set = field(default_factory=set)  # for which it was answered `begun` or `took`
+    names: set = field(default_factory=set)  # for which it was answered `begun` or `took`, or which it took to settle them
     staged: set = field(default_factory=set)  # pairs of a name and a key that it came to lock for its open transaction of that name
     taken: set = field(default_factory=set)  # names of transactions that it took
     written: set = field(default_factory=set)  # keys that it came to write at once
@@ -142,6 +29,9 @@ def known_by(part):
             known.names.add(command[1])
         if form == "took":
             known.taken.add(command[1])
+        if command[0] == "settle" and client.state == "idle":
+            known.names.update(names_taken(command, answer))
+            known.taken.update(names_taken(command, answer))
         if client.state == "open" and command[0] in ("put", "del", "lock") and form in ("held", "get", "missing", "conflict"):
             known.staged.add((client.name, command[1]))
         if command[0] in ("put", "del") and client.state == "idle" and form not in ("busy txn", "busy client"):
@@ -161,6 +51,7 @@ class Evidence:
     history: History
     found: Edit
     limits: tuple  # of the log as it was opened, and once it was renewed
+    cells: int  # how many words the commit cache has
     others: dict  # what each other client's dialogue says, by the client
     all: list  # what each client's says
     flushed: set  # the flushed number that was found, and those of `flushed` and `renewed` replies
@@ -196,6 +87,12 @@ class Judge:
         """The prepares of that name that may have been undecided at the command."""
         return self.evidence.history.undecided_since(self.last, name)
 
+    def asks(self, command):
+        """Of each entry that the command asks the log for, what it may be: which prepares a settle took may show later."""
+        if command[0] == "settle" and self.client.state == "idle":
+            return [{Entry("commit", number=p) for p in self.undecided(name)} for name in command[1:]]
+        return [{entry} for entry in asked(self.client, command)]
+
     def others(self):
         return self.evidence.others.values()
 
@@ -225,7 +122,8 @@ class Judge:
             return
         form = answer[0]
         if form == "fault log":
-            need(asked(self.client, command) or command == ("renew",), "needed", "the command is not logged")
+            need(self.asks(command) or command == ("renew",), "needed", "the command is not logged")
+            need(all(self.asks(command)), "failed", "a prepare that it names was never undecided")
             need(command != ("renew",) or self.renews_something(), "failed", "nothing was to be renewed")
         elif form in ("full", "stopped"):
             self.log_is_closed(command, answer)
@@ -257,7 +155,7 @@ class Judge:
         return max(self.evidence.bases) < len(self.evidence.history)
 
     def log_is_closed(self, command, answer):
-        needed = len(asked(self.client, command))
+        needed = len(self.asks(command))
         need(needed or answer[0] == "stopped" and command == ("renew",), "needed", "the command is not logged")
         self.fresh(answer[1])
         if answer[0] == "stopped":
@@ -350,6 +248,8 @@ class Judge:
             need(self.undecided(command[1]) or self.is_anothers(command[1]), "taken", f"nobody has the name {command[1]}")
         elif kind == "take":
             self.take_row(command, answer)
+        elif kind == "settle":
+            self.settle_row(command, answer)
         elif kind in ("prepare", "commit") and form == kind:
             self.logged(answer[1], asked(self.client, command)[0])
             self.unchanged(answer[1] - 1)
@@ -374,18 +274,48 @@ class Judge:
         need(undo.kind == "undo" and undo.number == self.client.prepare, "logged", f"the entry {n - 1} does not undo {self.client.prepare}")
 
     def take_row(self, command, answer):
-        form, name = answer[0], command[1]
-        if form == "took":
-            need(self.undecided(name), "took", f"no prepare named {name} is undecided then")
-        elif form == "unknown":
-            need(answer[1] == name, "row", "another name")
+        if answer[0] == "took":
+            need(self.undecided(command[1]), "took", f"no prepare named {command[1]} is undecided then")
+        else:
+            self.not_taken(command, answer)
+
+    def not_taken(self, command, answer):
+        """A name that the client does not get, of those that it asks for; it has got those before."""
+        if answer[0] not in ("unknown", "inuse"):
+            self.none(command, answer)
+        name = answer[1]
+        need(name in command[1:], "row", "another name")
+        for other in names_taken(command, answer):
+            need(self.undecided(other), "took", f"no prepare named {other} is undecided then")
+        if answer[0] == "unknown":
             self.fresh(answer[2])
             need(self.evidence.history.named(name, answer[2]) is None, "unknown", f"among the first {answer[2]} entries {name} is undecided")
-        elif form == "inuse":
-            need(answer[1] == name, "row", "another name")
-            need(self.is_anothers(name), "inuse", f"no other client began or took {name}")
         else:
-            self.none(command, answer)
+            need(self.is_anothers(name), "inuse", f"no other client began or took {name}")
+
+    def settle_row(self, command, answer):
+        form, names, history = answer[0], command[1:], self.evidence.history
+        if form == "settled":
+            n, count = answer[1:]
+            need(count == len(names), "settled", f"the command has {len(names)} names")
+            self.fresh(n - count)
+            for at, name in enumerate(names, n - count + 1):
+                p = history.named(name, n - count)
+                need(p is not None, "settled", f"among the first {n - count} entries no prepare named {name} is undecided")
+                self.logged(at, Entry("commit", number=p))
+        elif form == "crowded":
+            need(any(first_crowded(self.evidence.cells, numbers) == answer[1:] for numbers in self.named_together(names)), "crowded",
+                 f"{answer[1]} and {answer[2]} never were the first two that have one place of {self.evidence.cells}")
+        else:
+            self.not_taken(command, answer)
+
+    def named_together(self, names):
+        """The numbers of the undecided prepares of these names, after each number of entries from what the client has seen on."""
+        history = self.evidence.history
+        for n in range(self.last, len(history) + 1):
+            numbers = [history.named(name, n) for name in names]
+            if None not in numbers:
+                yield numbers
 
     def tables_row(self, command, answer):
         history, flushed = self.evidence.history, self.evidence.flushed
@@ -442,13 +372,6 @@ class Judge:
         return (*self.keys, (command[1], None)) if comes and command[1] not in dict(self.keys) else self.keys
 
 
-def fresh_number(command, answer, last):
-    """The greatest fresh number after the reply; that of a read or a scan at a snapshot is none."""
-    if answer[0] not in FRESH or is_at(command):
-        return last
-    return answer[2] if answer[0] in ("get", "unknown") else answer[1]
-
-
 def tables_after(tables, answer):
     if answer[0] == "flushed":
         return tables + 1
@@ -471,6 +394,6 @@ def check_session(evidence, part, found):
         if not allowed:
             raise Wrong(wrong.rule, f"client {part.client}, line {line}, `{' '.join(command)}`: `{part.lines[line - 1]}`: {wrong.why}")
         if answer == ("fault log",):
-            failed += [asked(judge.client, command) for judge in allowed]
+            failed += [judge.asks(command) for judge in allowed]
         judges = list({it.client: it for judge in allowed for it in judge.next(command, answer)}.values())
     return failed

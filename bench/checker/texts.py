@@ -65,6 +65,8 @@ FORMS = [
     ("flushed", rf"flushed @{NUMBER} {NUMBER}"),
     ("compacted", rf"compacted @{NUMBER} {NUMBER}"),
     ("renewed", rf"renewed @{NUMBER} {NUMBER}"),
+    ("settled", rf"settled @{NUMBER} {NUMBER}"),
+    ("crowded", rf"crowded {NUMBER} {NUMBER}"),
     ("rows", rf"rows @{NUMBER}((?: [\x21-\x7e]+ [\x21-\x7e]+)*)"),
 ]
 PATTERNS = [(form, re.compile(pattern)) for form, pattern in FORMS]

@@ -3,12 +3,14 @@ from collections import Counter
 from dataclasses import replace
 
 from .alone import check_alone
-from .beyond import acknowledged, check_board, check_flushes, check_locks
+from .beyond import acknowledged, check_board, check_flushes, check_locks, check_settles
 from .history import Edit, History, uncovered
 from .session import Evidence, check_session, known_by
 from .texts import need, reply_in, script_in, text_in
 
+# What the command line has where it names none.
 MOST_NUMBER = 70368744177663
+BITS = 10
 # Of a log in each version of the format.
 LAST_NUMBERS = {1: 4294967295, 2: 2**56 - 1}
 
@@ -34,6 +36,9 @@ def check_left(history, flushed, found, left, faults, answers, failed):
     bases = {max([found.base, *renewed])} | ({len(history)} if faults["stopped by tables"] else set())
     need(edit.base in bases, "stored", f"the log begins behind {edit.base}")
     need(stored.begins_with(history.cut(edit.base)), "stored", "the log has another history")
+    for numbers in map(acknowledged, answers):
+        is_one = [n in stored.firsts for n in numbers] == [True] + [False] * (len(numbers) - 1)
+        need(not numbers or numbers[0] <= edit.base or is_one, "record", f"the entries {numbers} are not one record")
     more = stored.entries[len(history) - edit.base :]
     need(not more or faults["fault log"] and is_asked(history, more, failed), "stored", f"the log has {len(more)} entries more")
     if faults["fault tables"]:
@@ -46,14 +51,14 @@ def check_left(history, flushed, found, left, faults, answers, failed):
 
 
 def is_asked(history, more, failed):
-    """The entries are one record that a client asked for which was answered `fault log`."""
+    """The entries are one record that a client asked for which was answered `fault log`; what was asked tells of each what it may be."""
     plain = [replace(entry, batch=()) if entry.kind == "undo" else entry for entry in more]
     grown = history.copy()
     for entry in more:
         if grown.fault(entry):
             return False
         grown.add(entry)
-    return plain in failed
+    return any(len(plain) == len(record) and all(entry in may for entry, may in zip(plain, record)) for record in failed)
 
 
 def joined(script, text):
@@ -65,9 +70,9 @@ def joined(script, text):
     return script
 
 
-def check(script, transcript, limit=MOST_NUMBER, found=None, left=None, status=None, version=2):
+def check(script, transcript, limit=MOST_NUMBER, found=None, left=None, status=None, version=2, bits=BITS):
     """Raises the first rule that the transcript breaks. `found` and `left` are what store_in gives, or None; the version is that of
-    the log as it was found."""
+    the log as it was found, and the commit cache has 2 to the power of so many bits words."""
     text = text_in(transcript)
     parts = joined(script_in(script), text)
     history = text.history
@@ -85,13 +90,14 @@ def check(script, transcript, limit=MOST_NUMBER, found=None, left=None, status=N
     failed = []
     for part in parts:
         others = {client: it for client, it in known.items() if client != part.client}
-        failed += check_session(Evidence(len(opened), history, edit, limits, others, list(known.values()), flushed, bases, faults), part, opened)
+        failed += check_session(Evidence(len(opened), history, edit, limits, 2**bits, others, list(known.values()), flushed, bases, faults), part, opened)
     check_pairing(history, opened, answers)
     last = check_flushes(history, edit, answers)
     check_board(parts, len(opened))
     for part in parts:
         check_locks(history, part)
-    alone = check_alone(parts[0], opened, edit, limits) if len(parts) == 1 else None
+        check_settles(history, part)
+    alone = check_alone(parts[0], opened, edit, limits, 2**bits) if len(parts) == 1 else None
     need(alone is None or alone.history.entries == history.entries, "due", "the replies leave another history")
     if left is not None:
         check_left(history, last, edit, left, faults, answers, failed)
