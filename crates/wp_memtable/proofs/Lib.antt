@@ -1,4 +1,4 @@
 pub mod KeyVersions
 pub mod Listed
 pub mod Between
-pub mod NextKey
+pub mod NextVersion

@@ -1,14 +1,17 @@
 ghost use Rattle.std.specs.Prelude.{◌≡◌, ◌==◌, true, length, IfOk};
 ghost use Rattle.std.specs.Arc.{arc_value};
 ghost use Rattle.std.specs.List.{list_all};
-ghost use Rattle.wp_model.specs.Rows.{next_key};
+ghost use Rattle.std.specs.Option.{option_map};
+ghost use Rattle.wp_model.specs.Rows.{next_version};
 ghost use Rattle.wp_model.specs.Versions.{AreInOrder};
 ghost use Rattle.wp_model.specs.Word.{is_key};
+ghost use Rattle.wp_memtable.specs.Borrowed.{held};
 ghost use Rattle.wp_memtable.specs.Memtable.{above, below, numbered_of};
 
 use crate::bounds::Bounds;
 use crate::found::Found;
 use crate::memtable::Memtable;
+use crate::version::MemoryVersion;
 use std::alloc::AllocError;
 use std::marker::Model;
 use std::sync::Arc;
@@ -61,9 +64,9 @@ impl FrozenPart {
         self.part.versions_between(key, self.bounds)
     }
 
-    /// The least key of a version that is above `key`, or, where `above` is false, not below it.
-    pub fn next_key(&self, key: &Key, above: bool) -> Result<Option<Key>, AllocError>
-        ensures found { IfOk result (λ found. found ≡ next_key above key.now self.now) }
+    /// The newest version of the least key that is above `key`, or, where `above` is false, not below it.
+    pub fn next_version(&self, key: &Key, above: bool) -> Option<MemoryVersion<'_>>
+        ensures found { option_map held result ≡ next_version above key.now self.now }
         ensures in_range { list_all (λ v. is_key v.key) self.now ≡ true }
         ensures in_order { AreInOrder self.now }
     {

@@ -10,6 +10,7 @@
 pub use found::Found;
 pub use frozen::FrozenPart;
 pub use memtable::Memtable;
+pub use version::MemoryVersion;
 
 mod bounds;
 mod found;
@@ -18,3 +19,4 @@ mod key_versions;
 mod memtable;
 mod places;
 mod several;
+mod version;

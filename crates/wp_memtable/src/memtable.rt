@@ -1,10 +1,11 @@
 ghost use Rattle.std.specs.Prelude.{◌≡◌, ◌++◌, ◌<◌, ◌^◌, true, [], ◌∷◌, length, IfOk, OnOk, OnErr, MatchResult};
-ghost use Rattle.std.specs.List.{list_all, list_any};
-ghost use Rattle.std.specs.Option.{option_copied};
+ghost use Rattle.std.specs.List.{find, list_all, list_any};
+ghost use Rattle.std.specs.Option.{option_copied, option_map};
 ghost use Rattle.std.specs.Range.Bound.{bound_map};
-ghost use Rattle.wp_model.specs.Rows.{next_key};
+ghost use Rattle.wp_model.specs.Rows.{next_version};
 ghost use Rattle.wp_model.specs.Versions.{AreInOrder};
 ghost use Rattle.wp_model.specs.Word.{is_key};
+ghost use Rattle.wp_memtable.specs.Borrowed.{held};
 ghost use Rattle.wp_memtable.specs.Bounds.{is_between, between};
 ghost use Rattle.wp_memtable.specs.Memtable.{HasChanges, above, below, numbered_of, start_at, under, versions_in};
 
@@ -13,6 +14,7 @@ use crate::found::Found;
 use crate::frozen::FrozenPart;
 use crate::key_versions::KeyVersions;
 use crate::places::put_changes;
+use crate::version::MemoryVersion;
 use std::alloc::{AllocError, Global};
 use std::collections::BTreeMap;
 use std::marker::Model;
@@ -105,19 +107,33 @@ fn start_at(key: &Key, above: bool) -> Bound<&Key>
     Bound::Included(key)
 }
 
-/// The first key that is above `key`, or, where `above` is false, not below it, and that has a version with a number
-/// between the bounds.
+/// The newest version of the key with a number between the bounds.
+fn newest_between<'a>(
+    key: &'a Key,
+    versions: &'a KeyVersions,
+    bounds: Bounds,
+) -> Option<MemoryVersion<'a>>
+    ensures { option_map held result ≡ find (λ v. is_between bounds v.number) (under key.entry.now versions.entry.now.versions) }
+{
+    match Found::new(Some(versions), bounds).next() {
+        Some((number, value)) => Some(MemoryVersion { key, number, value }),
+        None => None,
+    }
+}
+
+/// The newest version between the bounds of the first key that is above `key`, or, where `above` is false, not below it,
+/// and that has one.
 fn first_between<'a>(
     places: &'a BTreeMap<Key, KeyVersions>,
     key: &Key,
     above: bool,
     bounds: Bounds,
-) -> Option<&'a Key>
-    ensures { option_copied result ≡ next_key above key.now (between bounds (versions_in places.entry.now.entries)) }
+) -> Option<MemoryVersion<'a>>
+    ensures { option_map held result ≡ next_version above key.now (between bounds (versions_in places.entry.now.entries)) }
 {
     for (other, versions) in places.range((start_at(key, above), Bound::Unbounded)) {
-        if versions.has_between(bounds) {
-            return Some(other);
+        if let Some(version) = newest_between(other, versions, bounds) {
+            return Some(version);
         }
     }
     None
@@ -193,31 +209,28 @@ impl Memtable {
         Found::new(self.places.get(key), bounds)
     }
 
-    /// The least key of a version that is above `key`, or, where `above` is false, not below it. It goes there at once, and
-    /// then from key to key.
-    pub fn next_key(&self, key: &Key, above: bool) -> Result<Option<Key>, AllocError>
-        ensures found { IfOk result (λ found. found ≡ next_key above key.now self.now) }
+    /// The newest version of the least key that is above `key`, or, where `above` is false, not below it. It goes there at
+    /// once, and then from key to key.
+    pub fn next_version(&self, key: &Key, above: bool) -> Option<MemoryVersion<'_>>
+        ensures found { option_map held result ≡ next_version above key.now self.now }
         ensures in_range { list_all (λ v. is_key v.key) self.now ≡ true }
         ensures in_order { AreInOrder self.now }
     {
         self.next_between(key, above, Bounds::none())
     }
 
-    /// That of a version with a number between the bounds.
+    /// That of those with numbers between the bounds.
     pub(crate) fn next_between(
         &self,
         key: &Key,
         above: bool,
         bounds: Bounds,
-    ) -> Result<Option<Key>, AllocError>
-        ensures found { IfOk result (λ found. found ≡ next_key above key.now (between bounds self.now)) }
+    ) -> Option<MemoryVersion<'_>>
+        ensures found { option_map held result ≡ next_version above key.now (between bounds self.now) }
         ensures in_range { list_all (λ v. is_key v.key) self.now ≡ true }
         ensures in_order { AreInOrder self.now }
     {
-        match first_between(&self.places, key, above, bounds) {
-            Some(found) => Ok(Some(found.copy(self.alloc)?)),
-            None => Ok(None),
-        }
+        first_between(&self.places, key, above, bounds)
     }
 
     /// A copy of all versions.

@@ -1,5 +1,5 @@
--- The store that a history leaves, as a map, the rows of a range of its keys, and the keys of versions.
-use Rattle.std.specs.Prelude.{ℕ, Bool, false, ◌&&◌, List, [], ◌∷◌, take, fold, Option, if◌then◌else◌}
+-- The store that a history leaves, as a map, the rows of a range of its keys, the keys of versions, and the next version behind a key.
+use Rattle.std.specs.Prelude.{◌≡◌, ℕ, Bool, false, ◌&&◌, List, [], ◌∷◌, take, fold, Option, None, Some, if◌then◌else◌}
 use Rattle.std.specs.FinMap as finite
 use Rattle.std.specs.List.{filter, find}
 use Rattle.std.specs.Option.{option_map}
@@ -7,6 +7,7 @@ use Rattle.std.specs.Ordering.{is_lt, is_le}
 use Rattle.wp_model.specs.declared.change.Change.{Change}
 use Rattle.wp_model.specs.declared.change.Change.TheVariants.{Put, Del}
 use Rattle.wp_model.specs.declared.entry.Entry.{Entry}
+use Rattle.wp_model.specs.declared.row.Row.{Row}
 use Rattle.wp_model.specs.declared.version.Version.{Version}
 use Rattle.wp_model.specs.Batch.{key_cmp}
 use Rattle.wp_model.specs.History.{changes_of}
@@ -44,6 +45,15 @@ Pair = List ℕ × List ℕ
 abbrev pub is_from : (above : Bool) → (key other : List ℕ) → Bool
 is_from above key other = if above then is_lt (key_cmp key other) else is_le (key_cmp key other)
 
+-- a row's key, with its value
+abbrev pub pair_of : Row → Pair
+pair_of row = (row.key, row.value)
+
+-- the row is the first of those that were left, and the others are left; or none was, and none is
+abbrev pub GivesFirst : (before after : List Pair) → Option Row → Type 0
+GivesFirst before after None = (before ≡ []) × (after ≡ [])
+GivesFirst before after (Some row) = before ≡ pair_of row ∷ after
+
 -- what the first n entries leave, key by key
 abbrev pub rows_at : List Entry → ℕ → List Pair
 rows_at history n = finite.entries (stored (take n history))
@@ -56,8 +66,13 @@ rows_from history above key to n = filter (λ row. is_from above key row.0 && is
 abbrev pub rows : List Entry → (from to : List ℕ) → ℕ → List Pair
 rows history from to n = rows_from history false from to n
 
--- ---- the keys of versions
+-- ---- the next version
+
+-- the first of the versions whose key is above the key, or, where that is not asked, not below it: of the versions in order the
+-- newest one of the next key
+abbrev pub next_version : (above : Bool) → List ℕ → List Version → Option Version
+next_version above key versions = find (λ v. is_from above key v.key) versions
 
 -- the first key of the versions that is above the key, or, where that is not asked, not below it
 abbrev pub next_key : (above : Bool) → List ℕ → List Version → Option (List ℕ)
-next_key above key versions = option_map (λ v. v.key) (find (λ v. is_from above key v.key) versions)
+next_key above key versions = option_map (λ v. v.key) (next_version above key versions)

@@ -1,9 +1,10 @@
 //! What the store turn guards: the versions in memory and in tables.
-ghost use Rattle.std.specs.Prelude.{◌≡◌, ◌≤◌, ◌<◌, ℕ, nat_le, true, false, List, [], length, vec_capacity, Some, None, map, IfOk, OnOk, OnErr, if◌then◌else◌};
+ghost use Rattle.std.specs.Prelude.{◌≡◌, ◌≤◌, ◌<◌, ℕ, nat_le, true, false, List, [], ◌∷◌, length, vec_capacity, Some, None, map, IfOk, OnOk, OnErr, if◌then◌else◌};
 ghost use Rattle.std.specs.Arc.{arc_value};
+ghost use Rattle.std.specs.Option.{option_map};
 ghost use Rattle.wp_model.specs.declared.entry.Entry.{Entry};
 ghost use Rattle.wp_model.specs.Legal.{changes_in};
-ghost use Rattle.wp_model.specs.Rows.{next_key};
+ghost use Rattle.wp_model.specs.Rows.{next_version};
 ghost use Rattle.wp_model.specs.Versions.{version_at};
 ghost use Rattle.wp_memtable.specs.Memtable.{HasChanges};
 ghost use Rattle.wp_merge.specs.Merge.{joined, sorted_of};
@@ -76,12 +77,17 @@ impl Stock {
         self.store.collect(key, n)
     }
 
-    /// The least key of a version that is above `key`, or, where `above` is false, not below it, in memory and in tables.
-    pub fn next_key(&self, key: &Key, above: bool) -> Result<Option<Key>, AllocError>
-        ensures found { IfOk result (λ found. found ≡ next_key above key.now (sorted_of (all_in (store_state self.now)))) }
-        ensures in_range { OnOk result (AreWords (sorted_of (all_in (store_state self.now)))) }
+    /// The least key of a version that is above `key`, or, where `above` is false, not below it, in memory and in tables, and
+    /// the newest of its versions alone.
+    pub fn next_version(
+        &self,
+        key: &Key,
+        above: bool,
+    ) -> Result<Option<(Key, Versions)>, AllocError>
+        ensures found { IfOk result (λ found. found ≡ option_map (λ v. (v.key, v ∷ [])) (next_version above key.now (sorted_of (all_in (store_state self.now))))) }
+        ensures in_range { AreWords (sorted_of (all_in (store_state self.now))) }
     {
-        self.store.next_key(key, above)
+        self.store.next_version(key, above)
     }
 
     /// Whether no version is in memory.

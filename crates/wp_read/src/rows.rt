@@ -3,22 +3,18 @@
 //! A key is found under the store turn, with its newest version, and decided without it. A key that has a row at a live
 //! snapshot has a version in the store at each moment, so it is never passed over, whatever is flushed or dropped
 //! meanwhile. One that has none may lose its versions or come new: then it is read, and has no row.
-ghost use Rattle.std.specs.Prelude.{◌≡◌, true, Some, None, IfOk, IfSome, MatchOption, OnOk};
+ghost use Rattle.std.specs.Prelude.{◌≡◌, true, Some, None, IfOk, IfSome, OnOk};
 ghost use Rattle.std.specs.Option.{option_map};
 ghost use Rattle.std.specs.Ordering.{is_gt};
 ghost use Rattle.wp_model.specs.Batch.{key_cmp};
-ghost use Rattle.wp_model.specs.Rows.{is_from, next_key};
+ghost use Rattle.wp_model.specs.Rows.{is_from};
 ghost use Rattle.wp_core.specs.Lists.{IsIn};
 ghost use Rattle.wp_core.specs.Reading.{Registration};
-ghost use Rattle.wp_core.specs.States.{all_in};
 ghost use Rattle.wp_core.specs.Turns.{store_turn};
-ghost use Rattle.wp_merge.specs.Merge.{sorted_of};
-ghost use Rattle.wp_parts.specs.Stock.{store_state};
 ghost use Rattle.wp_shared.specs.Calls.{Continues};
 ghost use Rattle.wp_shared.specs.Notes.{is_under, GoesOn};
 ghost use Rattle.wp_shared.specs.Seats.{IsFree, held_by, participant_of, seen_by};
 ghost use Rattle.wp_shared.specs.Turns.{comes_last};
-ghost use Rattle.wp_store.specs.Store.{newest_of, AreWords};
 ghost use Rattle.wp_read.specs.Rows.{HasNoRow, HasWords, IsInRange, IsRowOf, SkipsNoRow};
 ghost use Rattle.wp_read.specs.Values.{ShowsValue};
 ghost use Rattle.wp_read.specs.declared.values.TheConstants.{FIRST_COPIES};
@@ -36,20 +32,6 @@ use wp_shared::{Seat, Shared, Stock};
 pub struct KeyRow {
     pub key: Key,
     pub row: Option<(Seq, Value)>,
-}
-
-/// The next key behind a place that has a version, with the newest of them.
-fn next_in(stock: &Stock, key: &Key, above: bool) -> Result<Option<(Key, Versions)>, AllocError>
-    ensures found { IfOk result (λ found. MatchOption found (next_key above key.now (sorted_of (all_in (store_state stock.now))) ≡ None)
-        (λ next. (next_key above key.now (sorted_of (all_in (store_state stock.now))) ≡ Some next.0)
-        × (next.1 ≡ newest_of FIRST_COPIES next.0 (sorted_of (all_in (store_state stock.now)))))) }
-    ensures in_range { OnOk result (AreWords (sorted_of (all_in (store_state stock.now)))) }
-{
-    let Some(next) = stock.next_key(key, above)? else {
-        return Ok(None);
-    };
-    let newest = stock.collect(&next, FIRST_COPIES)?;
-    Ok(Some((next, newest)))
 }
 
 /// Copies the next key behind a place, and its newest version, under the store turn, which comes behind all that the
@@ -72,7 +54,7 @@ fn copy_next<D: Disk + Drop, R: Wait>(
     ensures words { OnOk result ((r : Registration) → IsIn r seat.old.knows.participant.registered → HasWords (seen_by seat.old) r.number) }
 {
     let stock = store.take_turn::<Stock, R>(rt, seat);
-    let found = next_in(&stock, key, above);
+    let found = stock.next_version(key, above);
     store.give_turn::<Stock>(seat, stock);
     found
 }

@@ -4,3 +4,4 @@ pub mod Fronts
 pub mod NewestOfKey
 pub mod Taken
 pub mod NextKey
+pub mod NextVersion

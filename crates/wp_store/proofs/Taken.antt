@@ -1,12 +1,12 @@
 -- How the newest versions of a key are copied, one after another.
 use Rattle.std.proofs.Common.{◌≡◌, ℕ, zero, suc, ◌+◌, ◌<◌, Bool, true, false, cond, List, [], ◌∷◌, ◌++◌, take, map, refl, sym, ap, ◌∙◌, arith, append_assoc}
+use Rattle.std.specs.List.{AllByRecursion}
 use Rattle.std.specs.Str.{bytes_eq}
 use Rattle.std.proofs.lemmas.List.{append-nil, map-append}
 use Rattle.std.proofs.lemmas.Slice.Eq.{bytes_eq-Decides}
 use Rattle.wp_model.specs.declared.version.Version.{Version}
 use Rattle.wp_memtable.specs.Memtable.{under, numbered_of}
 use Rattle.wp_store.specs.Store.{of_key}
-use Rattle.wp_store.proofs.OneMerge.{AreAllInOrder}
 
 -- one more is taken
 pub taken_next : (list more rest now whole : List Version) (v : Version) (count left : ℕ) → now ≡ list ++ v ∷ [] → more ≡ v ∷ rest → left + 1 ≡ count → list ++ take count more ≡ whole → now ++ take left rest ≡ whole
@@ -37,9 +37,9 @@ under-numbered key (v ∷ vs) = by (bytes_eq v.key key) refl (under-numbered key
 
 -- ---- the lists of the parts
 
-pub all-append : (front back : List (List Version)) → AreAllInOrder front → AreAllInOrder back → AreAllInOrder (front ++ back)
-all-append [] back first second = second
-all-append (s ∷ ss) back first second = (first.0, all-append ss back first.1 second)
+pub all-append : (P : List Version → Type 0) (front back : List (List Version)) → AllByRecursion P front → AllByRecursion P back → AllByRecursion P (front ++ back)
+all-append P [] back first second = second
+all-append P (s ∷ ss) back first second = (first.0, all-append P ss back first.1 second)
 
 -- what memory, the frozen parts and the tables have, put one after another
 pub each_part : (f : List Version → List Version) (memory : List Version) (frozen tables first second third : List (List Version)) → first ≡ f memory ∷ [] → second ≡ first ++ map f frozen → third ≡ second ++ map f tables → third ≡ map f (memory ∷ frozen ++ tables)

@@ -1,13 +1,16 @@
 -- A store: the versions in memory, in frozen parts and in tables.
-use Rattle.std.specs.Prelude.{◌≡◌, ℕ, Bool, true, ◌==◌, nat_lt, List, ◌∷◌, ◌++◌, length, take, map, filter, fold, Option, Some, None, if◌then◌else◌}
+use Rattle.std.specs.Prelude.{◌≡◌, ℕ, Bool, true, ◌==◌, nat_lt, List, ◌∷◌, ◌++◌, length, take, map, filter, fold, Option, Some, None, IfSome, if◌then◌else◌}
 use Rattle.std.specs.List.{list_all}
 use Rattle.std.specs.Ordering.{is_lt}
 use Rattle.std.specs.Str.{bytes_eq}
-use Rattle.wp_model.specs.Batch.{key_cmp}
-use Rattle.wp_model.specs.Rows.{next_key}
+use Rattle.wp_model.specs.Rows.{next_version}
 use Rattle.wp_model.specs.Word.{is_key}
 use Rattle.wp_model.specs.declared.version.Version.{Version}
+use Rattle.wp_model.specs.Versions.{version_cmp}
 use Rattle.wp_memtable.specs.Memtable.{above}
+use Rattle.wp_table.specs.declared.version.VersionRef.{VersionRef}
+use Rattle.wp_table.specs.Borrowed.{seen}
+use Rattle.wp_table.specs.Table.{has_words}
 
 -- Where versions are: in memory, where those of new entries go; in frozen parts, which a flush is writing or a refused
 -- flush left; and in tables. The newest frozen part is the first, and so is the newest table.
@@ -36,15 +39,19 @@ newest_of n key versions = take n (of_key key versions)
 abbrev pub AreWords : List Version → Type 0
 AreWords versions = list_all (λ v. is_key v.key) versions ≡ true
 
--- the lesser of the keys, of those that there are
-abbrev pub least_key : Option (List ℕ) → Option (List ℕ) → Option (List ℕ)
-least_key None other = other
-least_key (Some key) None = Some key
-least_key (Some key) (Some other) = if is_lt (key_cmp other key) then Some other else Some key
+-- the version that is borrowed, if there is one, may be copied: its words are in their range
+abbrev pub IsCopyable : Option VersionRef → Type 0
+IsCopyable version = IfSome version (λ v. has_words (seen v) ≡ true)
 
--- the least of that key and of the next keys of all these lists
-abbrev pub least_next : (above : Bool) → List ℕ → Option (List ℕ) → List (List Version) → Option (List ℕ)
-least_next above key least parts = fold (λ so_far part. least_key so_far (next_key above key part)) least parts
+-- the version that comes first, of those that there are; of two of one place it is the first
+abbrev pub least_version : Option Version → Option Version → Option Version
+least_version None other = other
+least_version (Some v) None = Some v
+least_version (Some v) (Some w) = if is_lt (version_cmp w v) then Some w else Some v
+
+-- the least of that version and of the next ones of all these lists
+abbrev pub least_next : (above : Bool) → List ℕ → Option Version → List (List Version) → Option Version
+least_next above key least parts = fold (λ so_far part. least_version so_far (next_version above key part)) least parts
 
 -- of each part the versions with numbers above n, where there are any
 abbrev pub parts_above : ℕ → List (List Version) → List (List Version)

@@ -30,7 +30,7 @@ fn listed(alloc: Global, merge: Merge) -> Result<Versions, AllocError>
 }
 
 /// All versions of the lists, in order. Of two with one key and number it is the earlier list's.
-pub(crate) fn merged(alloc: Global, sources: Vec<Versions>) -> Result<Versions, AllocError>
+pub fn merged(alloc: Global, sources: Vec<Versions>) -> Result<Versions, AllocError>
     ensures { IfOk result (λ all. AreMerged sources.items all) }
 {
     listed(alloc, Merge::of(alloc, sources)?)

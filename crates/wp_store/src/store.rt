@@ -1,15 +1,16 @@
 ghost use Rattle.std.specs.Prelude.{◌≡◌, ◌==◌, [], ◌∷◌, List, length, map, IfOk, OnOk, OnErr};
 ghost use Rattle.std.specs.Arc.{arc_value};
 ghost use Rattle.std.specs.List.{list_all};
+ghost use Rattle.std.specs.Option.{option_map};
 ghost use Rattle.wp_model.specs.declared.version.Version.{Version};
-ghost use Rattle.wp_model.specs.Rows.{next_key};
+ghost use Rattle.wp_model.specs.Rows.{next_version};
 ghost use Rattle.wp_memtable.specs.Memtable.{HasChanges, above, below};
 ghost use Rattle.wp_merge.specs.Merge.{AreMerged};
 ghost use Rattle.wp_store.specs.Store.{parts_of, is_flushed, parts_above, newest_of, AreWords};
 
 use crate::frozen_parts::FrozenParts;
 use crate::newest::newest_in_memory;
-use crate::next_key::{least_in_frozen, least_in_tables};
+use crate::next_version::{copied_with_key, least_in_frozen, least_in_tables, next_in_memory};
 use crate::sources::{merged, push_frozen, push_newest_frozen, push_newest_tables};
 use std::alloc::{AllocError, Global};
 use std::collections::VecDeque;
@@ -119,16 +120,20 @@ impl Store {
         Ok(Versions::of(found))
     }
 
-    /// The least key of a version that is above `key`, or, where `above` is false, not below it. It goes to each part for
-    /// that alone.
-    pub fn next_key(&self, key: &Key, above: bool) -> Result<Option<Key>, AllocError>
-        ensures found { IfOk result (λ found. (all : List Version) → AreMerged (parts_of self.now) all → found ≡ next_key above key.now all) }
-        ensures in_range { OnOk result ((all : List Version) → AreMerged (parts_of self.now) all → AreWords all) }
+    /// The least key of a version that is above `key`, or, where `above` is false, not below it, and the newest of its versions
+    /// alone. It goes to each part for that version, and copies one of them.
+    pub fn next_version(
+        &self,
+        key: &Key,
+        above: bool,
+    ) -> Result<Option<(Key, Versions)>, AllocError>
+        ensures found { IfOk result (λ found. (all : List Version) → AreMerged (parts_of self.now) all → found ≡ option_map (λ v. (v.key, v ∷ [])) (next_version above key.now all)) }
+        ensures in_range { (all : List Version) → AreMerged (parts_of self.now) all → AreWords all }
     {
-        let in_memory = self.memory.next_key(key, above)?;
-        let least = least_in_frozen(&self.frozen, key, above, in_memory)?;
-        let found = least_in_tables(self.alloc, &self.tables, key, above, least)?;
-        Ok(found)
+        let in_memory = next_in_memory(&self.memory, key, above);
+        let least = least_in_frozen(&self.frozen, key, above, in_memory);
+        let found = least_in_tables(&self.tables, key, above, least);
+        copied_with_key(self.alloc, found)
     }
 
     /// The frozen parts, for a flush to write.

@@ -1,27 +1,24 @@
 -- Versions in order, searched for those of one key.
-use Rattle.std.proofs.Common.{◌≡◌, ℕ, zero, suc, ◌+◌, ◌*◌, ◌<◌, ◌≤◌, Bool, true, false, Less, Equal, Greater, List, [], ◌∷◌, length, drop, filter, not, Option, Some, None, IfSome, refl, sym, ap, ◌∙◌, arith, inl, inr, ◌⊎◌}
+use Rattle.std.proofs.Common.{◌≡◌, ℕ, zero, suc, ◌+◌, ◌*◌, ◌<◌, ◌≤◌, Bool, true, false, Less, Equal, Greater, List, [], ◌∷◌, length, drop, filter, not, Option, Some, None, refl, sym, ap, ◌∙◌, arith, inl, inr, ◌⊎◌}
 use Rattle.std.specs.declared.cmp.Ordering.{Ordering}
-use Rattle.std.specs.List.{list_all}
 use Rattle.std.specs.Option.{option_map}
 use Rattle.std.specs.Ordering.{nat_cmp, is_lt, is_le, ordering_then, ordering_reverse}
 use Rattle.std.specs.Str.{bytes_eq}
-use Rattle.std.proofs.lemmas.Bool.{and_parts}
 use Rattle.std.proofs.lemmas.Cmp.{nat_list_cmp_total}
 use Rattle.std.proofs.lemmas.Map.Lookups.{exact_bytes}
 use Rattle.std.proofs.lemmas.Slice.Eq.{bytes_eq-Decides}
 use Rattle.wp_fields.proofs.Results.{either}
 use Rattle.wp_model.specs.Batch.{key_cmp}
-use Rattle.wp_model.specs.Word.{is_key}
 use Rattle.wp_model.specs.declared.version.Version.{Version}
 use Rattle.wp_model.specs.Versions.{AreInOrder, version_cmp}
 use Rattle.wp_model.proofs.BatchLemmas.{less_from_test}
 use Rattle.wp_model.proofs.VersionLists.{IsBefore, in_order_parts}
-use Rattle.wp_model.specs.Rows.{is_from, next_key}
+use Rattle.wp_model.specs.Rows.{is_from, next_version}
 use Rattle.wp_table.specs.declared.version.VersionRef.{VersionRef}
 use Rattle.wp_table.specs.Borrowed.{seen, with_next, is_short, begins_short, begins_below, skip_short, front_with}
 use Rattle.std.proofs.lemmas.List.{drop_all, drop-drop}
 use Rattle.wp_table.specs.declared.layout.TheConstants.{BLOCK}
-use Rattle.wp_table.specs.Table.{block_count, has_words, is_stored}
+use Rattle.wp_table.specs.Table.{block_count}
 use Rattle.wp_table.specs.Walk.{StandsFrom}
 use Rattle.wp_table.proofs.BlockLemmas.{count_bounds}
 use Rattle.wp_table.proofs.Order.{in_order_drop}
@@ -143,7 +140,7 @@ found_from n vs key h from = found_in (drop n vs) key (in_order_drop n vs h) ∙
 pub key_stands : (n : ℕ) (vs : List Version) (key : List ℕ) → AreInOrder vs → skip_short false key (drop n vs) ≡ skip_short false key vs → filter (has key) (drop n vs) ≡ filter (has key) vs
 key_stands n vs key h from = sym (found_in (drop n vs) key (in_order_drop n vs h)) ∙ ap (front_with key) from ∙ found_in vs key h
 
--- ---- the next key
+-- ---- the next version
 
 from_is_not_short : (above : Bool) (key other : List ℕ) → is_from above key other ≡ not (is_short above key other)
 from_is_not_short true key other = ap is_lt (nat_list_cmp_total.antisymm key other) ∙ by (key_cmp other key)
@@ -159,46 +156,26 @@ from_is_not_short false key other = ap is_le (nat_list_cmp_total.antisymm key ot
     by Equal = refl
     by Greater = refl
 
-abbrev front_key : List Version → Option (List ℕ)
-front_key [] = None
-front_key (v ∷ vs) = Some v.key
+abbrev front : List Version → Option Version
+front [] = None
+front (v ∷ vs) = Some v
 
 module _ (above : Bool) (key : List ℕ) where
-  next_front : (vs : List Version) → next_key above key vs ≡ front_key (skip_short above key vs)
+  next_front : (vs : List Version) → next_version above key vs ≡ front (skip_short above key vs)
   next_front [] = refl
   next_front (v ∷ vs) = by (next_front vs) (is_short above key v.key) refl
     where
-      by : next_key above key vs ≡ front_key (skip_short above key vs) → (b : Bool) → is_short above key v.key ≡ b → next_key above key (v ∷ vs) ≡ front_key (skip_short above key (v ∷ vs))
+      by : next_version above key vs ≡ front (skip_short above key vs) → (b : Bool) → is_short above key v.key ≡ b → next_version above key (v ∷ vs) ≡ front (skip_short above key (v ∷ vs))
       by again true short = rw (from_is_not_short above key v.key, short) again
       by again false not_short = rw (from_is_not_short above key v.key, not_short) refl
 
-  front_next : (o : Option VersionRef) (rest : List Version) → option_map (λ v. (seen v).key) o ≡ front_key (with_next (option_map seen o) rest)
+  front_next : (o : Option VersionRef) (rest : List Version) → option_map seen o ≡ front (with_next (option_map seen o) rest)
   front_next None rest = refl
   front_next (Some v) rest = refl
 
-  -- the first that is not skipped has it
-  pub next_is : (o : Option VersionRef) (rest : List Version) (n : ℕ) (vs : List Version) → with_next (option_map seen o) rest ≡ skip_short above key (drop n vs) → skip_short above key (drop n vs) ≡ skip_short above key vs → option_map (λ v. (seen v).key) o ≡ next_key above key vs
-  next_is o rest n vs found from = front_next o rest ∙ ap front_key (found ∙ from) ∙ sym (next_front vs)
-
-  skipped_in_range : (vs : List Version) → list_all has_words vs ≡ true → list_all has_words (skip_short above key vs) ≡ true
-  skipped_in_range [] all = refl
-  skipped_in_range (v ∷ vs) all = by (skipped_in_range vs (and_parts (has_words v) (list_all has_words vs) all).1) (is_short above key v.key) refl
-    where
-      by : list_all has_words (skip_short above key vs) ≡ true → (b : Bool) → is_short above key v.key ≡ b → list_all has_words (skip_short above key (v ∷ vs)) ≡ true
-      by again true short = rw short again
-      by again false not_short = rw not_short all
-
-  behind_in_range : (n : ℕ) (vs : List Version) → list_all has_words vs ≡ true → list_all has_words (drop n vs) ≡ true
-  behind_in_range zero vs all = all
-  behind_in_range (suc n) [] all = refl
-  behind_in_range (suc n) (v ∷ vs) all = behind_in_range n vs (and_parts (has_words v) (list_all has_words vs) all).1
-
-  pub key_in_range : (o : Option VersionRef) (rest : List Version) (n : ℕ) (vs : List Version) → with_next (option_map seen o) rest ≡ skip_short above key (drop n vs) → list_all has_words vs ≡ true → IfSome o (λ v. is_key (seen v).key ≡ true)
-  key_in_range None rest n vs found all = tt
-  key_in_range (Some r) rest n vs found all =
-      let v : Version = seen r in
-      let here : list_all has_words (v ∷ rest) ≡ true = ap (list_all has_words) found ∙ skipped_in_range (drop n vs) (behind_in_range n vs all) in
-      (and_parts (is_key v.key) (is_stored v.value) (and_parts (has_words v) (list_all has_words rest) here).0).0
+  -- it is the first that is not skipped
+  pub next_is : (o : Option VersionRef) (rest : List Version) (n : ℕ) (vs : List Version) → with_next (option_map seen o) rest ≡ skip_short above key (drop n vs) → skip_short above key (drop n vs) ≡ skip_short above key vs → option_map seen o ≡ next_version above key vs
+  next_is o rest n vs found from = front_next o rest ∙ ap front (found ∙ from) ∙ sym (next_front vs)
 
 -- ---- what is skipped
 

@@ -1,14 +1,15 @@
 ghost use Rattle.std.specs.Prelude.{◌≡◌, ◌+◌, ◌-◌, ◌*◌, ◌^◌, ◌≤◌, ◌<◌, true, false, List, length, drop, IfOk, IfErr, IfSome, Ok, Err, filter};
 ghost use Rattle.std.specs.Arc.{arc_value};
 ghost use Rattle.std.specs.List.{list_all};
+ghost use Rattle.std.specs.Option.{option_map};
 ghost use Rattle.std.specs.Str.{bytes_eq};
 ghost use Rattle.wp_model.specs.declared.version.Version.{Version};
-ghost use Rattle.wp_model.specs.Rows.{next_key};
+ghost use Rattle.wp_model.specs.Rows.{next_version};
 ghost use Rattle.wp_model.specs.Versions.{AreInOrder};
 ghost use Rattle.wp_fields.specs.Reading.{Gives};
 ghost use Rattle.wp_table.specs.declared.error.TableError.{TableError};
 ghost use Rattle.wp_table.specs.declared.layout.TheConstants.{BLOCK};
-ghost use Rattle.wp_table.specs.Borrowed.{begins_below, begins_short};
+ghost use Rattle.wp_table.specs.Borrowed.{seen, begins_below, begins_short};
 ghost use Rattle.wp_table.specs.Errors.{table_fault};
 ghost use Rattle.wp_table.specs.Faults.{IsTableFault};
 ghost use Rattle.wp_table.specs.Reading.{table_at};
@@ -21,8 +22,8 @@ use crate::found::{Found, first_from};
 use crate::layout::{BLOCK, HEAD};
 use crate::reading::judge;
 use crate::steps::Steps;
-use crate::version::copy_key;
-use std::alloc::{AllocError, Global};
+use crate::version::VersionRef;
+use std::alloc::Global;
 use std::marker::Model;
 use std::sync::Arc;
 use std::sync::ledger::Ledger;
@@ -197,24 +198,23 @@ impl Table {
         Found::of(self.from_block(block), key.bytes(), steps)
     }
 
-    /// The least key of a version that is above `key`, or, where `above` is false, not below it. Its block is found by binary
-    /// search, and at most one block is passed over there. A step is one comparison with a key of the table.
-    pub fn next_key<L: Ledger>(
+    /// The newest version of the least key that is above `key`, or, where `above` is false, not below it, borrowed from the
+    /// table's bytes. Its block is found by binary search, and at most one block is passed over there. A step is one comparison
+    /// with a key of the table.
+    pub fn next_version<L: Ledger>(
         &self,
-        alloc: Global,
         key: &Key,
         above: bool,
         steps: &mut Steps<L>,
-    ) -> Result<Option<Key>, AllocError>
-        ensures found { IfOk result (λ found. found ≡ next_key above key.now self.now) }
+    ) -> Option<VersionRef<'_>>
+        ensures found { option_map seen result ≡ next_version above key.now self.now }
         ensures in_range { list_all has_words self.now ≡ true }
         ensures in_order { AreInOrder self.now }
         ensures cost { 2 ^ (steps.new - steps.old - (BLOCK + 1)) ≤ 2 * block_count (length self.now) + 1 }
     {
         let block = self.block_before(key, above, steps);
         let mut rest = self.from_block(block);
-        let found = first_from(&mut rest, key.bytes(), above, steps);
-        copy_key(alloc, found)
+        first_from(&mut rest, key.bytes(), above, steps)
     }
 
     /// All versions, in order, borrowed from the table's bytes.

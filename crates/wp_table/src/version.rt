@@ -1,13 +1,13 @@
-ghost use Rattle.std.specs.Prelude.{◌≡◌, true, IfOk, IfSome};
-ghost use Rattle.std.specs.Option.{option_copied, option_map};
+ghost use Rattle.std.specs.Prelude.{◌≡◌, true, IfOk};
+ghost use Rattle.std.specs.Option.{option_copied};
 ghost use Rattle.wp_model.specs.Versions.{version_cmp};
-ghost use Rattle.wp_model.specs.Word.{is_key, is_word};
+ghost use Rattle.wp_model.specs.Word.{is_word};
 ghost use Rattle.wp_table.specs.Borrowed.{seen};
 ghost use Rattle.wp_table.specs.Table.{has_words, is_stored};
 
 use std::alloc::{AllocError, Global};
 use std::cmp::Ordering;
-use wp_model::{Key, Seq, Value, Version, Word, WordError};
+use wp_model::{Seq, Value, Version, Word, WordError};
 
 /// A version in a table, borrowed from its bytes.
 #[derive(Clone, Copy)]
@@ -39,20 +39,6 @@ fn copy_value(alloc: Global, value: Option<&[u8]>) -> Result<Option<Value>, Allo
 {
     match value {
         Some(value) => Ok(Some(copy_word(alloc, value)?)),
-        None => Ok(None),
-    }
-}
-
-/// A copy of the version's key, or none.
-pub(crate) fn copy_key(
-    alloc: Global,
-    version: Option<VersionRef<'_>>,
-) -> Result<Option<Key>, AllocError>
-    requires { IfSome version (λ v. is_key (seen v).key ≡ true) }
-    ensures { IfOk result (λ copy. copy ≡ option_map (λ v. (seen v).key) version.entry) }
-{
-    match version {
-        Some(version) => Ok(Some(copy_word(alloc, version.key)?)),
         None => Ok(None),
     }
 }

@@ -18,19 +18,19 @@ returns-clause-goes g c =
 pub returns-clause-from : goal.returns-clause-from
 returns-clause-from g c =
     let k = c.take_turn-stock.ensures.taken in
-    next_from c.args.store.now c.args.seat.now c.deref.result.now c.args.above c.args.key.now (k.world, k.before, k.is ∙ ap store_state (sym c.deref.ensures)) c.next_in-found.result c.next_in-found.ensures.found
+    next_from c.args.store.now c.args.seat.now c.deref.result.now c.args.above c.args.key.now (k.world, k.before, k.is ∙ ap store_state (sym c.deref.ensures)) c.next_version-found.result c.next_version-found.ensures.found
 
 pub returns-clause-skips : goal.returns-clause-skips
 returns-clause-skips g c =
     let k = c.take_turn-stock.ensures.taken in
-    next_skips c.args.store.now c.args.seat.now c.deref.result.now c.args.above c.args.key.now (k.world, k.before, k.is ∙ ap store_state (sym c.deref.ensures)) c.next_in-found.result c.next_in-found.ensures.found
+    next_skips c.args.store.now c.args.seat.now c.deref.result.now c.args.above c.args.key.now (k.world, k.before, k.is ∙ ap store_state (sym c.deref.ensures)) c.next_version-found.result c.next_version-found.ensures.found
 
 pub returns-clause-shows : goal.returns-clause-shows
 returns-clause-shows g c =
     let k = c.take_turn-stock.ensures.taken in
-    next_shows c.args.store.now c.args.seat.now c.deref.result.now c.args.above c.args.key.now (k.world, k.before, k.is ∙ ap store_state (sym c.deref.ensures)) c.next_in-found.result c.next_in-found.ensures.found
+    next_shows c.args.store.now c.args.seat.now c.deref.result.now c.args.above c.args.key.now (k.world, k.before, k.is ∙ ap store_state (sym c.deref.ensures)) c.next_version-found.result c.next_version-found.ensures.found
 
 pub returns-clause-words : goal.returns-clause-words
 returns-clause-words g c =
     let k = c.take_turn-stock.ensures.taken in
-    next_words c.args.store.now c.args.seat.now c.deref.result.now c.args.above c.args.key.now (k.world, k.before, k.is ∙ ap store_state (sym c.deref.ensures)) c.next_in-found.result c.next_in-found.ensures.in_range
+    next_words c.args.store.now c.args.seat.now c.deref.result.now c.args.above c.args.key.now (k.world, k.before, k.is ∙ ap store_state (sym c.deref.ensures)) c.next_version-found.result c.next_version-found.ensures.in_range

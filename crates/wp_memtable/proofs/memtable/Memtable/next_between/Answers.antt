@@ -6,20 +6,8 @@ use Rattle.wp_model.specs.Versions.{AreInOrder}
 use Rattle.wp_memtable.proofs.Listed.{in_order-versions_in, words_in}
 use Rattle.wp_memtable.proofs.memtable.Memtable.next_between.Goals as goal
 
-pub returns-in_ok-copy-in-Some-clause-in_order : goal.returns-in_ok-copy-in-Some-clause-in_order
-returns-in_ok-copy-in-Some-clause-in_order c = subst AreInOrder c.self.view_is (in_order-versions_in _ c.self.invariant.0)
+pub returns-clause-in_order : goal.returns-clause-in_order
+returns-clause-in_order c = subst AreInOrder c.self.view_is (in_order-versions_in _ c.self.invariant.0)
 
-pub returns-in_err-copy-in-Some-clause-in_order : goal.returns-in_err-copy-in-Some-clause-in_order
-returns-in_err-copy-in-Some-clause-in_order c = subst AreInOrder c.self.view_is (in_order-versions_in _ c.self.invariant.0)
-
-pub returns-in-None-clause-in_order : goal.returns-in-None-clause-in_order
-returns-in-None-clause-in_order c = subst AreInOrder c.self.view_is (in_order-versions_in _ c.self.invariant.0)
-
-pub returns-in_ok-copy-in-Some-clause-in_range : goal.returns-in_ok-copy-in-Some-clause-in_range
-returns-in_ok-copy-in-Some-clause-in_range c = subst (λ (vs : List Version). list_all (λ v. is_key v.key) vs ≡ true) c.self.view_is (words_in c.self.inside.places.entries c.self.invariant.0.words)
-
-pub returns-in_err-copy-in-Some-clause-in_range : goal.returns-in_err-copy-in-Some-clause-in_range
-returns-in_err-copy-in-Some-clause-in_range c = subst (λ (vs : List Version). list_all (λ v. is_key v.key) vs ≡ true) c.self.view_is (words_in c.self.inside.places.entries c.self.invariant.0.words)
-
-pub returns-in-None-clause-in_range : goal.returns-in-None-clause-in_range
-returns-in-None-clause-in_range c = subst (λ (vs : List Version). list_all (λ v. is_key v.key) vs ≡ true) c.self.view_is (words_in c.self.inside.places.entries c.self.invariant.0.words)
+pub returns-clause-in_range : goal.returns-clause-in_range
+returns-clause-in_range c = subst (λ (vs : List Version). list_all (λ v. is_key v.key) vs ≡ true) c.self.view_is (words_in c.self.inside.places.entries c.self.invariant.0.words)

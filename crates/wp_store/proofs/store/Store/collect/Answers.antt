@@ -32,7 +32,7 @@ returns c = λ all is.
     let tables = map arc_value c.self.inside.tables.items in
     let pushed = c.in_ok-push.ensures.items ∙ (λ i. c.new-sources.ensures.items i ++ (c.in_ok-newest.ensures.newest i ∷ [])) in
     let sources = each_part (newest_of n key) memory frozen tables _ _ _ pushed c.in_ok-push_newest_frozen.ensures.newest c.in_ok-push_newest_tables.ensures.newest in
-    let in_order : AreAllInOrder (memory ∷ frozen ++ tables) = (c.in_ok-newest.ensures.in_order, all-append frozen tables c.in_ok-push_newest_frozen.ensures.in_order c.in_ok-push_newest_tables.ensures.in_order) in
+    let in_order : AreAllInOrder (memory ∷ frozen ++ tables) = (c.in_ok-newest.ensures.in_order, all-append AreInOrder frozen tables c.in_ok-push_newest_frozen.ensures.in_order c.in_ok-push_newest_tables.ensures.in_order) in
     let few = subst (λ ss. AreMerged ss c.in_ok-merged.field-0) sources c.in_ok-merged.ensures in
     let whole = subst (λ s. AreMerged (parts_of s) all) (sym c.self.view_is) is in
     c.of.ensures ∙ c.truncate.ensures.items ∙ ap (take n) c.into_vec-found.ensures.value ∙ newest_merged key n (memory ∷ frozen ++ tables) c.in_ok-merged.field-0 all in_order few whole
