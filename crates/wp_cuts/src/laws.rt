@@ -12,7 +12,7 @@ ghost use Rattle.wp_model.specs.Versions.{AreInOrder};
 ghost use Rattle.wp_keep.specs.Keep.{retained_of};
 ghost use Rattle.wp_keep.specs.MayGo.{MayGo};
 ghost use Rattle.wp_cuts.specs.Agree.{HaveSameValues, AgreeFrom, TellAlike};
-ghost use Rattle.wp_cuts.specs.Copied.{AreNewest};
+ghost use Rattle.wp_cuts.specs.Copied.{AreCopied};
 ghost use Rattle.wp_cuts.specs.Cut.{Cut, carried_of, cut_at, IsCut, carried_at, is_fixed, base_value, changes_at, full_of};
 ghost use Rattle.wp_cuts.specs.Kept.{carried_versions, HasKeysAt, AreKept, StayFrom};
 ghost use Rattle.wp_cuts.specs.LegalCut.{AreNumbered, cut_front, prepares_of, value_behind, IsLegalCut, AreBelow, AreOrderlyBehind};
@@ -114,13 +114,13 @@ pub fn legal_cuts()
         → IsLegalCut c (λ key. value_at history key c.base) }
 {}
 
-/// The newest versions at the end of a legal history, with those of its undecided prepares, cover it there, and open its
+/// The versions that a copy of a legal history has at its end, with those of its undecided prepares, cover it there, and open its
 /// cut at its end.
-pub fn newest_versions_reopen()
+pub fn copied_versions_reopen()
     ensures covered { (history : List Entry) (versions : List Version) → IsLegal history → undone_last history ≡ None
-        → AreNewest history versions → IsCovered versions history (length history ∷ []) (length history) }
+        → AreCopied history versions → IsCovered versions history (length history ∷ []) (length history) }
     ensures opens { (history : List Entry) (versions : List Version) → IsLegal history → undone_last history ≡ None
-        → AreNewest history versions
+        → AreCopied history versions
         → IsReopened history (cut_at history (length history)) versions (length history ∷ []) (length history) }
 {}
 
