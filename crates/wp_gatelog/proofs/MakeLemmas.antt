@@ -1,13 +1,16 @@
 -- A log is made.
-use Rattle.std.proofs.Common.{◌≡◌, inl, inr, ℕ, ◌<◌, ◌≤◌, List, [], ◌∷◌, ◌++◌, length, Result, refl, sym, ◌∙◌, ap, subst, arith}
+use Rattle.std.proofs.Common.{◌≡◌, inl, inr, ℕ, ◌<◌, ◌≤◌, List, [], ◌∷◌, ◌++◌, length, drop, Result, refl, sym, ◌∙◌, ap, subst, arith}
 use Rattle.std.proofs.lemmas.Bool.{cases_eq}
 use Rattle.std.proofs.lemmas.List.{append-nil, append_assoc}
-use Rattle.wp_outside.specs.Disk.{Moment, IsImage, synced, after_write, after_cut}
+use Rattle.wp_outside.specs.Disk.{Moment, IsImage, IfKnown, added, synced, after_write, after_cut, after_sync}
+use Rattle.wp_gatelog.specs.Beside.{IsNoneOrWhole, IsWholeLog}
 use Rattle.wp_gatelog.specs.Changes.{Changes, Steps, BringsTo}
 use Rattle.wp_gatelog.specs.Heads.{BeginsOpen, SpellsNone}
-use Rattle.wp_gatelog.specs.Spelling.{Stamp, identity, log_of, IsUnmade}
+use Rattle.wp_gatelog.specs.Log.{IsAtRest}
+use Rattle.wp_gatelog.specs.Moments.{IsSynced}
+use Rattle.wp_gatelog.specs.Spelling.{Stamp, all_gated, identity, log_of, IsUnmade}
 use Rattle.wp_gatelog.proofs.AcknowledgedLemmas.{spares_unmade}
-use Rattle.wp_gatelog.proofs.ChangeLemmas.{brings_as, brings_of}
+use Rattle.wp_gatelog.proofs.ChangeLemmas.{brings_as, brings_of, changes_map}
 use Rattle.wp_gatelog.proofs.MomentLemmas.{image_after, image_of_gate, put_gate, reads_after}
 use Rattle.wp_gatelog.proofs.StandLemmas.{unmade_stands}
 
@@ -80,6 +83,43 @@ begins_none magic stamp image (inr (gate, more, open_gate, is)) = inr (
   refl,
 )
 
+-- ---- a whole log
+
+-- it is an open gate, and what follows that
+pub whole_parts : (magic : List ℕ) (stamp : Stamp) (records : List (List ℕ)) (bytes rest : List ℕ) → IsWholeLog magic stamp records bytes → rest ≡ drop 1 bytes → 1 ∷ rest ≡ bytes
+whole_parts magic stamp records bytes rest whole is = ap (λ (l : List ℕ). 1 ∷ l) (is ∙ ap (λ (l : List ℕ). drop 1 l) whole.spelling) ∙ sym whole.spelling
+
+pub begins_whole : (magic : List ℕ) (stamp : Stamp) (records : List (List ℕ)) (bytes rest image : List ℕ) → IsWholeLog magic stamp records bytes → rest ≡ drop 1 bytes → BeginsOpen rest image → IsNoneOrWhole magic stamp records image
+begins_whole magic stamp records bytes rest image whole is (inl unmade) = inl unmade
+begins_whole magic stamp records bytes rest image whole is (inr (gate, more, open_gate, here)) =
+    let spelled : List ℕ = identity magic stamp ++ all_gated whole.gated in
+    let same : rest ≡ spelled ++ 0 ∷ [] = is ∙ ap (λ (l : List ℕ). drop 1 l) whole.spelling in
+    inr (inr (
+      gate,
+      whole.gated,
+      record {
+        rest = more;
+        spelling = here ∙ ap (λ (l : List ℕ). gate ∷ l) (ap (λ (l : List ℕ). l ++ more) same ∙ append_assoc spelled (0 ∷ []) more);
+        head_open = open_gate;
+        gates_open = whole.acknowledged.gates_open;
+      },
+      whole.acknowledged.same,
+    ))
+
+-- it is at rest once it is on the disk for good
+pub whole_rests : (magic : List ℕ) (stamp : Stamp) (records : List (List ℕ)) (bytes : List ℕ) (whole : IsWholeLog magic stamp records bytes) (m : Moment) → m ≡ synced bytes → IsAtRest magic stamp (length (log_of magic stamp 1 whole.gated)) [] [] records m
+whole_rests magic stamp records bytes whole m on = record {
+  gated = whole.gated;
+  acknowledged = whole.acknowledged;
+  place = omega arith;
+  on_disk = on ∙ ap synced whole.spelling;
+}
+
+-- the closed gate was written to a disk that was empty
+pub shut_synced : (old new : List Moment) → IfKnown old (λ m. m.reads ≡ []) → new ≡ added after_sync (added (after_write 0 (0 ∷ [])) old) → IsSynced (0 ∷ []) new
+shut_synced [] new none is = rw is tt
+shut_synced (m ∷ past) new none is = rw is (ap synced (ap (λ (l : List ℕ). 0 ∷ drop 1 l) none))
+
 -- ---- call by call
 
 module _ {T E : Type 0} (magic : List ℕ) where
@@ -88,6 +128,15 @@ module _ {T E : Type 0} (magic : List ℕ) where
   brings_closed stamp before unmade old new result changes =
       brings_of [] magic IsUnmade (SpellsNone magic stamp) (λ m. m ≡ synced (0 ∷ [])) before (0 ∷ []) old new result
       (λ other records. spares_unmade magic other records before IsUnmade unmade) (λ other records has. absurd (unmade_stands magic other records before unmade has)) (unmade_none magic stamp) (λ m on. on) changes
+
+  -- to an empty disk
+  pub brings_shut : (P : List ℕ → Type 0) → ((image : List ℕ) → IsUnmade image → P image) → (old new : List Moment) (result : Result T E) → Steps [] (after_write 0 (0 ∷ [])) [] old new result
+      → BringsTo 0 magic P (λ m. m ≡ synced (0 ∷ [])) old new result
+  brings_shut P unmade old new result changes =
+      let stepped : Moment = after_write 0 (0 ∷ []) (synced []) in
+      brings_of [] magic IsUnmade P (λ m. m ≡ synced (0 ∷ [])) [] (0 ∷ []) old new result
+      (λ other records. spares_unmade magic other records [] IsUnmade tt) (λ other records has. absurd (unmade_stands magic other records [] tt has)) unmade (λ m on. on)
+      (changes_map [] (IsImage stepped) IsUnmade [] (0 ∷ []) (0 ∷ []) old new result (λ image. unmade_written [] image (omega arith)) refl changes)
 
   pub brings_staged : (rest : List ℕ) (old new : List Moment) (result : Result T E) → Steps [] (after_write 1 rest) (0 ∷ []) old new result → BringsTo 0 magic (BeginsOpen rest) (λ m. m ≡ synced (0 ∷ rest)) old new result
   brings_staged rest old new result changes =

@@ -5,7 +5,7 @@ use Rattle.wp_gatelog.specs.Changes.{BringsTo}
 use Rattle.wp_gatelog.specs.Durability.{HasAcknowledged, LosesNoRecordAt}
 use Rattle.wp_gatelog.specs.Log.{IsAcknowledged, IsAtRest, LogState, Rests, stamp_of}
 use Rattle.wp_gatelog.specs.Moments.{Leaves, LeavesFrom}
-use Rattle.wp_gatelog.specs.Spelling.{Gated, Stamp, log_of, SpellsAt}
+use Rattle.wp_gatelog.specs.Spelling.{Gated, IsUnmade, Stamp, log_of, Spells, SpellsAt}
 use Rattle.wp_gatelog.specs.Stands.{StandsOn}
 
 -- these bytes are a whole log: a head, records that count as acknowledged, and the closed gate that ends it
@@ -13,6 +13,10 @@ pub record IsWholeLog (magic : List ℕ) (stamp : Stamp) (records : List (List �
   pub gated : List Gated
   pub acknowledged : IsAcknowledged gated records
   pub spelling : bytes ≡ log_of magic stamp 1 gated ++ 0 ∷ []
+
+-- no log was made, or these records are spelled
+abbrev pub IsNoneOrWhole : List ℕ → Stamp → List (List ℕ) → List ℕ → Type 0
+IsNoneOrWhole magic stamp records bytes = IsUnmade bytes ⊎ Spells bytes magic stamp records
 
 -- So many bytes from that place on are dead to a log that ends there and stands between these bytes: they are before it,
 -- or they begin behind the gate that ends it, at the disk's end at the latest.

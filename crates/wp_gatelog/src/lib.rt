@@ -31,6 +31,7 @@ pub use laws::{
     acknowledged_records_come_first, bytes_are_read_in_one_way, logs_at_a_place_are_read_in_one_way,
 };
 pub use log::{AppendError, GateLog};
+pub use make::make_whole;
 pub use read_log::ReadLog;
 pub use stored_record::StoredRecord;
 pub use whole::WholeLog;

@@ -1,6 +1,6 @@
 //! The bytes of a whole log, put together in memory.
 
-ghost use Rattle.std.specs.Prelude.{◌≡◌, ◌++◌, ◌∷◌, [], ℕ, List, IfOk};
+ghost use Rattle.std.specs.Prelude.{◌≡◌, ◌++◌, ◌∷◌, [], ℕ, List, drop, IfOk};
 ghost use Rattle.wp_gatelog.specs.Beside.{IsWholeLog};
 ghost use Rattle.wp_gatelog.specs.Spelling.{Stamp, stamped};
 
@@ -60,5 +60,12 @@ impl WholeLog {
         ensures { result.now ≡ self.now }
     {
         &self.bytes
+    }
+
+    /// What follows the gate of the head.
+    pub(crate) fn rest(&self) -> &[u8]
+        ensures { result.now ≡ drop 1 self.now }
+    {
+        &self.bytes[1..]
     }
 }

@@ -17,6 +17,6 @@ mod write;
 pub use edit::Edit;
 pub use error::ManifestError;
 pub use laws::{a_manifest_is_read_in_one_way, edits_have_one_spelling};
-pub use manifest::{Manifest, is_made};
+pub use manifest::{Manifest, is_made, whole};
 pub use read::last_edit;
 pub use room::EditRoom;

@@ -1,12 +1,13 @@
 //! An open manifest.
 
-ghost use Rattle.std.specs.Prelude.{◌≡◌, ◌↔◌, ◌≤◌, ℕ, Bool, List, length, true, false, is_some, IfOk, IfErr, MatchResult};
+ghost use Rattle.std.specs.Prelude.{◌≡◌, ◌↔◌, ◌≤◌, ℕ, Bool, List, length, true, false, is_some, [], ◌∷◌, IfOk, IfErr, OnOk, MatchResult};
 ghost use Rattle.wp_outside.specs.Disk.{IfKnown, Passes};
 ghost use Rattle.wp_outside.specs.Faults.{HasCause};
+ghost use Rattle.wp_gatelog.specs.Beside.{IsWholeLog};
 ghost use Rattle.wp_gatelog.specs.Moments.{Leaves};
 ghost use Rattle.wp_gatelog.specs.Opening.{KeepsLog};
 ghost use Rattle.wp_gatelog.specs.Spelling.{IsUnmade};
-ghost use Rattle.wp_manifest.specs.Edit.{Edit, no_edit};
+ghost use Rattle.wp_manifest.specs.Edit.{Edit, IsEdit, edit_bytes, no_edit};
 ghost use Rattle.wp_manifest.specs.Errors.{manifest_error_of};
 ghost use Rattle.wp_manifest.specs.Spelling.{MAGIC, head_stamp};
 ghost use Rattle.wp_manifest.specs.Manifest.{InstallsInto, NamesThere, Opened, Stands, StoresEdits};
@@ -20,7 +21,9 @@ use crate::write::frame_edit;
 use std::alloc::{AllocError, Global};
 use std::marker::Model;
 use wp_fields::Format;
-use wp_gatelog::{AppendError, DiskRefused, GateLog, LogError, acknowledged_records_come_first};
+use wp_gatelog::{
+    AppendError, DiskRefused, GateLog, LogError, WholeLog, acknowledged_records_come_first,
+};
 use wp_outside::{Disk, Failed};
 
 /// The first four bytes after the gate of the manifest's head.
@@ -72,6 +75,17 @@ pub fn is_made<D: Disk>(disk: &mut D) -> Result<bool, Failed>
     let mut bytes = [0; 2];
     let read = disk.read_at(0, &mut bytes)?;
     Ok(begins_one(&bytes[..read]))
+}
+
+/// Takes the memory of a manifest that has this edit alone: the bytes of a whole log. The edit is of the second form.
+pub fn whole(alloc: Global, id: u32, edit: &Edit) -> Result<WholeLog, AllocError>
+    requires place { is_some edit.now.place ≡ true }
+    requires count { length edit.now.tables ≤ edit.now.flushed }
+    ensures whole { IfOk result (λ log. IsWholeLog MAGIC (head_stamp id) (edit_bytes edit.now ∷ []) log) }
+    ensures edit { OnOk result (IsEdit edit.now) }
+{
+    let frame = frame_edit(alloc, edit)?;
+    WholeLog::new(alloc, MANIFEST_MAGIC, Format::One, id)?.with(&frame)
 }
 
 impl<D: Disk> Manifest<D> {

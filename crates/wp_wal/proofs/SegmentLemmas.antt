@@ -11,12 +11,12 @@ use Rattle.wp_entry.specs.Base.{Base, IsBase, base_bytes}
 use Rattle.wp_gatelog.specs.declared.log.AppendError.{AppendError}
 use Rattle.wp_gatelog.specs.declared.log.AppendError.TheVariants.{DiskFault, Closed}
 use Rattle.wp_gatelog.specs.Append.{FrameRefused}
-use Rattle.wp_gatelog.specs.Beside.{AreDead, BothRest, IsAtRestAt, IsWholeLog, Writes, WritesBeside}
+use Rattle.wp_gatelog.specs.Beside.{AreDead, BothRest, IsAtRestAt, IsNoneOrWhole, IsWholeLog, Writes, WritesBeside}
 use Rattle.wp_gatelog.specs.Durability.{HasAcknowledged}
 use Rattle.wp_gatelog.specs.Log.{IsAtRest, LogState, stamp_of}
 use Rattle.wp_gatelog.specs.Moments.{Leaves}
-use Rattle.wp_gatelog.specs.Spelling.{Stamp, stamped, IsUpTo, SpellsAt, log_of}
-use Rattle.wp_wal.specs.Segment.{IsBeside, IsEndFor, IsPlaceFor, NewSegmentState, SurvivesBeside, WrittenState, cut_behind}
+use Rattle.wp_gatelog.specs.Spelling.{Stamp, stamped, IsUpTo, Spells, SpellsAt, log_of}
+use Rattle.wp_wal.specs.Segment.{IsBeside, IsEndFor, IsNoneOrLog, IsPlaceFor, NewSegmentState, SurvivesBeside, WrittenState, cut_behind}
 use Rattle.wp_wal.specs.Spelling.{MAGIC, NEWEST, AreCut, IsBegun, IsLogAt, IsLogOrNextAt, HasAcknowledgedCut, base_of_cut}
 use Rattle.wp_wal.specs.Wal.{HasNumbers, LeavesCut, LosesNothingAt, Reserved, StoresCut, WalState, wal_state}
 use Rattle.wp_wal.proofs.AppendLemmas.{at_rest_leaves, each_other, known_other, left_both, loses_nothing, running_cut}
@@ -36,6 +36,14 @@ rest_begins stamp end front dead records m rest = let place = rest.place in omeg
 -- a segment without entries that is at rest leaves its cut
 base_spelled : (place : ℕ) (c : Cut) → IsBase (base_of_cut c) → c.entries ≡ [] → AreCut Two place (base_bytes (base_of_cut c) ∷ []) c
 base_spelled place c is none = (is, refl, none)
+
+-- what spells its base alone
+pub spells_base : (id : ℕ) (base : Base) (image : List ℕ) → IsBase base → Spells image MAGIC (stamped Two id) (base_bytes base ∷ []) → IsLogAt id 0 (cut_behind base) image
+spells_base id base image is h = (Two, base_bytes base ∷ [], omega arith, h, base_spelled 0 (cut_behind base) is refl)
+
+pub none_or_base : (id : ℕ) (base : Base) (image : List ℕ) → IsBase base → IsNoneOrWhole MAGIC (stamped Two id) (base_bytes base ∷ []) image → IsNoneOrLog id base image
+none_or_base id base image is (inl unmade) = inl unmade
+none_or_base id base image is (inr h) = inr (spells_base id base image is h)
 
 some_first : (r : List ℕ) (records : List (List ℕ)) → r ∷ records ≢ []
 some_first r records e = cc e

@@ -8,7 +8,7 @@ use Rattle.wp_fields.specs.declared.format.Format.TheVariants.{Two}
 use Rattle.wp_entry.specs.Base.{Base, IsBase, base_bytes}
 use Rattle.wp_gatelog.specs.Beside.{IsAtRestAt}
 use Rattle.wp_gatelog.specs.Moments.{Leaves}
-use Rattle.wp_gatelog.specs.Spelling.{stamped}
+use Rattle.wp_gatelog.specs.Spelling.{IsUnmade, stamped}
 use Rattle.wp_wal.specs.Spelling.{MAGIC, IsLogAt, base_of_cut}
 use Rattle.wp_wal.specs.Wal.{WalState, StoresCut, LeavesCut, LosesNothingAt}
 
@@ -24,6 +24,10 @@ base_of history = record { number = length history; carried = carried_of history
 -- what a log without entries spells behind this base
 abbrev pub cut_behind : Base → Cut
 cut_behind base = record { base = base.number; carried = base.carried; entries = [] }
+
+-- no log was made, or one that spells this base and no entries
+abbrev pub IsNoneOrLog : ℕ → Base → List ℕ → Type 0
+IsNoneOrLog id base bytes = IsUnmade bytes ⊎ IsLogAt id 0 (cut_behind base) bytes
 
 -- a segment that was written beside the log in use: where it is, its base, and where the gate that ends it is
 pub record WrittenState : Type 0 where

@@ -1,27 +1,30 @@
 //! Another segment of the log: put together in memory, written beside the one in use, and brought into use.
 
-ghost use Rattle.std.specs.Prelude.{◌≡◌, ◌≢◌, ◌+◌, ◌≤◌, ◌∷◌, [], length, None, IfOk, IfErr, OnOk};
+ghost use Rattle.std.specs.Prelude.{◌≡◌, ◌≢◌, ℕ, ◌+◌, ◌≤◌, List, ◌∷◌, [], length, None, IfOk, IfErr, OnOk};
 ghost use Rattle.wp_cuts.specs.Cut.{Cut};
+ghost use Rattle.wp_outside.specs.Disk.{Goes, IfKnown, images};
+ghost use Rattle.wp_outside.specs.Faults.{HasCause};
 ghost use Rattle.wp_fields.specs.declared.format.Format.TheVariants.{Two};
 ghost use Rattle.wp_entry.specs.Base.{AscendUpTo, IsBase, base_bytes};
 ghost use Rattle.wp_entry.specs.Record.{last_number};
 ghost use Rattle.wp_gatelog.specs.Append.{FrameRefused};
 ghost use Rattle.wp_gatelog.specs.Beside.{IsWholeLog};
+ghost use Rattle.wp_gatelog.specs.Moments.{IsSynced, Leaves};
 ghost use Rattle.wp_gatelog.specs.Spelling.{stamped};
-ghost use Rattle.wp_wal.specs.Segment.{IsBeside, IsEndFor, IsPlaceFor, SurvivesBeside};
-ghost use Rattle.wp_wal.specs.Spelling.{MAGIC};
+ghost use Rattle.wp_wal.specs.Segment.{IsBeside, IsEndFor, IsNoneOrLog, IsPlaceFor, SurvivesBeside, cut_behind};
+ghost use Rattle.wp_wal.specs.Spelling.{MAGIC, IsLogAt};
 ghost use Rattle.wp_wal.specs.Wal.{Refuses, StoresCut};
 
 use crate::base::base_frame;
 use crate::wal::{LOG_MAGIC, Wal};
-use std::alloc::AllocError;
+use std::alloc::{AllocError, Global};
 use std::marker::Model;
 use std::snapshot::Snapshot;
 use wp_entry::Base;
 use wp_fields::Format;
-use wp_gatelog::{AppendError, GateLog, WholeLog};
+use wp_gatelog::{AppendError, GateLog, WholeLog, make_whole};
 use wp_model::{Segment, Seq};
-use wp_outside::Disk;
+use wp_outside::{Disk, Failed};
 
 /// A segment without entries in memory, behind a base. Clauses see the base, and what is written.
 #[derive(Drop)]
@@ -89,21 +92,48 @@ fn place_beside<D: Disk>(log: &mut GateLog<D>, used: u64, size: u64) -> Result<u
     Ok(len)
 }
 
+impl NewSegment {
+    /// Takes the memory of a segment behind this base: the bytes of a whole log of the second version with this id, without
+    /// entries.
+    pub fn of(alloc: Global, id: u32, base: &Base) -> Result<NewSegment, AllocError>
+        requires small { base.now.number ≤ last_number Two }
+        requires ascend { AscendUpTo base.now.number 0 base.now.carried }
+        ensures base { IfOk result (λ s. (s.base ≡ base.now) × IsBase base.now) }
+        ensures whole { IfOk result (λ s. IsWholeLog MAGIC (stamped Two id) (base_bytes base.now ∷ []) s.bytes) }
+    {
+        let frame = base_frame(alloc, base)?;
+        let log = WholeLog::new(alloc, LOG_MAGIC, Format::Two, id)?.with(&frame)?;
+        Ok(NewSegment {
+            base: Snapshot::of(base),
+            number: base.number,
+            log,
+        })
+    }
+
+    /// Writes the segment to an empty disk, as a log of its own. A crash leaves no log there, or the whole of it.
+    pub fn make<D: Disk>(&self, disk: &mut D) -> Result<(), Failed>
+        ensures left { (id : ℕ) → IsBase self.now.base → IsWholeLog MAGIC (stamped Two id) (base_bytes self.now.base ∷ []) self.now.bytes
+            → IfKnown (D.moments disk.old) (λ m. m.reads ≡ [])
+            → OnOk result ((image : List ℕ) → images (D.moments disk.new) image → IsLogAt id 0 (cut_behind self.now.base) image) }
+        ensures passed { (id : ℕ) → IsBase self.now.base → IsWholeLog MAGIC (stamped Two id) (base_bytes self.now.base ∷ []) self.now.bytes
+            → IsSynced [] (D.moments disk.old)
+            → Goes (Leaves (IsNoneOrLog id self.now.base)) (D.moments disk.old) (D.moments disk.new) }
+        ensures unknown { D.moments disk.old ≡ [] → D.moments disk.new ≡ [] }
+        ensures cause { HasCause (D.faults disk.old) (D.faults disk.new) result }
+    {
+        make_whole(disk, &self.log)
+    }
+}
+
 impl<D: Disk> Wal<D> {
-    /// Takes the memory of a segment behind this base: the bytes of a whole log of the second version, without entries.
+    /// Takes the memory of a segment behind this base, with the log's id.
     pub fn segment(&self, base: &Base) -> Result<NewSegment, AllocError>
         requires small { base.now.number ≤ last_number Two }
         requires ascend { AscendUpTo base.now.number 0 base.now.carried }
         ensures base { IfOk result (λ s. (s.base ≡ base.now) × IsBase base.now) }
         ensures whole { IfOk result (λ s. IsWholeLog MAGIC (stamped Two self.now.id) (base_bytes base.now ∷ []) s.bytes) }
     {
-        let frame = base_frame(self.alloc, base)?;
-        let log = WholeLog::new(self.alloc, LOG_MAGIC, Format::Two, self.log.id())?.with(&frame)?;
-        Ok(NewSegment {
-            base: Snapshot::of(base),
-            number: base.number,
-            log,
-        })
+        NewSegment::of(self.alloc, self.log.id(), base)
     }
 
     /// Writes the segment beside the log in use, in one write, and puts it on the device for good. Its place is 0 where the log in
