@@ -5,7 +5,7 @@ use Rattle.std.specs.FinMap as finite
 use Rattle.std.specs.List.{filter}
 use Rattle.wp_model.specs.declared.entry.Entry.{Entry}
 use Rattle.wp_model.specs.declared.row.Row.{Row}
-use Rattle.wp_model.specs.Rows.{Pair, is_from, stored, rows}
+use Rattle.wp_model.specs.Rows.{Pair, pair_of, is_from, stored, rows, GivesFirst}
 use Rattle.wp_text.specs.declared.script.Command.TheVariants as command
 use Rattle.wp_text.specs.declared.reply.Reply.TheVariants as reply
 use Rattle.wp_core.specs.Lists.{IsIn}
@@ -18,7 +18,7 @@ use Rattle.wp_shared.proofs.Onward.{starts_on}
 use Rattle.wp_read.specs.Fresh.{WasPublished}
 use Rattle.wp_read.specs.Registers.{IsTaken}
 use Rattle.wp_read.proofs.Fresh.{released}
-use Rattle.wp_scan.specs.Scan.{ScanState, left_of, pair_of, GivesFirst, GivesOn}
+use Rattle.wp_scan.specs.Scan.{ScanState, left_of, GivesOn}
 use Rattle.wp_open_txns.specs.Calls.{Keeps}
 use Rattle.wp_replies.specs.declared.client.LabelledSnapshot.{LabelledSnapshot}
 use Rattle.wp_replies.specs.Txn.{Idle}

@@ -4,13 +4,13 @@ use Rattle.std.specs.Prelude.{Result, Ok, Err, IfOk, OnOk}
 use Rattle.wp_model.specs.declared.entry.Entry.{Entry}
 use Rattle.wp_model.specs.declared.row.Row.{Row}
 use Rattle.wp_model.specs.History.{value_at}
-use Rattle.wp_model.specs.Rows.{Pair, rows_from}
+use Rattle.wp_model.specs.Rows.{Pair, pair_of, rows_from, GivesFirst}
 use Rattle.wp_model.proofs.Rows.{first_row, past_row, no_row}
 use Rattle.wp_read.specs.Rows.{IsRowAt, IsRowOf, SkipsNoRow, HasNoRow, IsInRange, HasWords}
 use Rattle.wp_scan.specs.declared.scan.Step.{Step}
 use Rattle.wp_scan.specs.declared.scan.Step.TheVariants as step
 use Rattle.wp_scan.specs.Step.{given, IsStep, IsVersionOf}
-use Rattle.wp_scan.specs.Scan.{ScanState, left_of, passed, pair_of, GivesFirst, GivesOn}
+use Rattle.wp_scan.specs.Scan.{ScanState, left_of, passed, GivesOn}
 
 -- what gives the first of the rows that are left gives them on
 pub first_gives_on : (before after : List Pair) (found : Option Row) → GivesFirst before after found → GivesOn before after found

@@ -2,7 +2,7 @@
 use Rattle.std.specs.Prelude.{◌≡◌, ℕ, Bool, true, List, [], ◌∷◌, ◌++◌, Option, Some, None, if◌then◌else◌}
 use Rattle.wp_model.specs.declared.entry.Entry.{Entry}
 use Rattle.wp_model.specs.declared.row.Row.{Row}
-use Rattle.wp_model.specs.Rows.{Pair, rows_from}
+use Rattle.wp_model.specs.Rows.{Pair, pair_of, rows_from}
 use Rattle.wp_model.specs.Word.{is_key}
 use Rattle.wp_read.specs.Rows.{IsRowAt}
 
@@ -20,15 +20,6 @@ left_of history n scan = if scan.over then [] else rows_from history scan.above 
 -- it stands behind that key
 abbrev pub passed : List ℕ → ScanState → ScanState
 passed key scan = record scan { at = key; above = true }
-
--- the key of a row, with its value
-abbrev pub pair_of : Row → Pair
-pair_of row = (row.key, row.value)
-
--- the row is the first of those that were left, and the others are left; or none was, and none is
-abbrev pub GivesFirst : (before after : List Pair) → Option Row → Type 0
-GivesFirst before after None = (before ≡ []) × (after ≡ [])
-GivesFirst before after (Some row) = before ≡ pair_of row ∷ after
 
 -- Where what was given before and what was left are all of some rows, so are what was given with this one and what is left; or, where
 -- none is given, all was given before.

@@ -1,10 +1,10 @@
 -- What going on to the next key comes to.
 use Rattle.std.specs.Prelude.{◌≡◌, ℕ, List, [], ◌∷◌, Option, Some, None}
 use Rattle.wp_model.specs.declared.entry.Entry.{Entry}
-use Rattle.wp_model.specs.Rows.{Pair}
+use Rattle.wp_model.specs.Rows.{Pair, pair_of}
 use Rattle.wp_scan.specs.declared.scan.Step.{Step}
 use Rattle.wp_scan.specs.declared.scan.Step.TheVariants.{Row, Passed, End}
-use Rattle.wp_scan.specs.Scan.{pair_of, IsShownAt}
+use Rattle.wp_scan.specs.Scan.{IsShownAt}
 
 -- what is given of a key
 abbrev pub given : List ℕ → Option (ℕ × List ℕ) → Step

@@ -1,10 +1,10 @@
 ghost use Rattle.std.specs.Prelude.{◌≡◌, ℕ, List, IfOk, IfSome, OnOk, OnErr};
 ghost use Rattle.wp_model.specs.declared.entry.Entry.{Entry};
-ghost use Rattle.wp_model.specs.Rows.{rows};
+ghost use Rattle.wp_model.specs.Rows.{rows, GivesFirst};
 ghost use Rattle.wp_core.specs.Lists.{IsIn};
 ghost use Rattle.wp_shared.specs.Calls.{Continues};
 ghost use Rattle.wp_shared.specs.Seats.{IsFree, participant_of, seen_by};
-ghost use Rattle.wp_scan.specs.Scan.{left_of, passed, GivesFirst, GivesOn, IsShownAt};
+ghost use Rattle.wp_scan.specs.Scan.{left_of, passed, GivesOn, IsShownAt};
 ghost use Rattle.wp_scan.specs.Step.{given, IsStep, IsVersionOf};
 
 use std::alloc::{AllocError, Global};

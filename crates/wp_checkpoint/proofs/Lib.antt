@@ -1,0 +1,9 @@
+pub mod RowLists
+pub mod Prepared
+pub mod CopiedVersions
+pub mod CopiedHistory
+pub mod Opening
+pub mod Looks
+pub mod Writes
+pub mod Amid
+pub mod Images
