@@ -1,6 +1,6 @@
 -- A key that comes to an open transaction, and a change.
-use Rattle.std.proofs.Common.{◌≡◌, ℕ, ◌+◌, ◌≤◌, ◌<◌, nat_le, Bool, true, false, true≢false, ◌||◌, List, [], ◌∷◌, ◌++◌, length, refl, sym, subst, ap, ◌∙◌, Option, Some, None, is_some, arith}
-use Rattle.std.specs.Prelude.{unwrap_or, Result, Ok, Err, if◌then◌else◌}
+use Rattle.std.proofs.Common.{◌≡◌, ℕ, ◌+◌, ◌≤◌, ◌<◌, nat_le, Bool, true, false, ◌||◌, List, [], ◌∷◌, ◌++◌, length, refl, sym, subst, ap, ◌∙◌, Option, Some, is_some, arith}
+use Rattle.std.specs.Prelude.{unwrap_or, Ok, Err, if◌then◌else◌}
 use Rattle.std.specs.FinSet as set
 use Rattle.std.specs.FinMap as finite
 use Rattle.std.specs.Str.{bytes_eq}
@@ -10,12 +10,10 @@ use Rattle.std.proofs.lemmas.Slice.Eq.{bytes_eq-Decides}
 use Rattle.wp_model.specs.declared.batch.TheConstants.{MOST_KEYS}
 use Rattle.wp_model.specs.Batch.{key_of, with_change, are_ascending, is_batch}
 use Rattle.wp_model.specs.Changed.{IsUnchanged}
-use Rattle.wp_model.specs.Holder.{is_same_txn}
 use Rattle.wp_model.specs.History.{is_changed}
-use Rattle.wp_model.specs.LockState.{LockState, is_among_keys}
+use Rattle.wp_model.specs.LockState.{is_among_keys}
 use Rattle.wp_model.specs.declared.change.Change.{Change}
 use Rattle.wp_model.specs.declared.entry.Entry.{Entry}
-use Rattle.wp_model.specs.declared.holder.Holder.{Holder}
 use Rattle.wp_model.specs.declared.holder.Holder.TheVariants.{Txn}
 use Rattle.wp_model.proofs.Keyed.{at_inserted}
 use Rattle.wp_core.specs.Lists.{IsIn}

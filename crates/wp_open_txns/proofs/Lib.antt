@@ -7,3 +7,5 @@ mod KeyTaken
 mod Pinned
 mod Freed
 mod Taking
+mod Looked
+mod UndecidedAt

@@ -9,7 +9,7 @@ use Rattle.std.proofs.lemmas.Cmp.{nat_list_cmp_total}
 use Rattle.std.proofs.lemmas.Slice.Eq.{bytes_eq-Decides}
 use Rattle.wp_model.specs.LockState.{LockState, is_among_keys}
 use Rattle.wp_model.specs.Batch.{is_batch}
-use Rattle.wp_model.specs.History.{prepared_batch, named, batch_at, is_changed}
+use Rattle.wp_model.specs.History.{named, batch_at}
 use Rattle.wp_model.specs.declared.change.Change.{Change}
 use Rattle.wp_model.specs.declared.entry.Entry.{Entry}
 use Rattle.wp_model.specs.declared.holder.Holder.{Holder}

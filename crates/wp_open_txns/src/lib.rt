@@ -11,10 +11,12 @@
 //!   answer. So from the pin to its own end none of its keys is changed by others.
 //! - `leave` gives up a prepared transaction, whose name stays live and whose keys stay held, and `take_prepared` takes one that
 //!   nobody has.
+//! - `undecided_at` gives the prepares that are undecided at a snapshot, as a base carries them, and `undone_at` tells whether that stands
+//!   between an undo and its close.
 //! - `tell` and `hear`: labels on a board, by which one client lets another see what it has seen.
 //!
 //! A transaction is a value that has to be spent: it is handed to the call that ends it, and comes back where that is refused.
-//! `abandon`, `leave` and `hear` take no memory; all others may be refused for want of it, and then leave the transaction as it was,
+//! `abandon`, `leave`, `hear` and `undone_at` take no memory; all others may be refused for want of it, and then leave the transaction as it was,
 //! and the seat but for what it has seen. The calls that make entries are those of `wp_txn`, which passes these on; it locks the key
 //! of a direct write and frees what is decided as these do (`lock_for`, `free`).
 #![tactic(auto)]
@@ -28,6 +30,7 @@ mod pinning;
 mod prepared;
 mod steps;
 mod txn;
+mod undecided;
 mod validating;
 
 pub use board::{hear, tell};
@@ -38,4 +41,5 @@ pub use names::{abandon, begin};
 pub use pinning::{pin, unpin};
 pub use prepared::{leave, take_prepared};
 pub use txn::{OpenTxn, PreparedTxn};
+pub use undecided::{undecided_at, undone_at};
 pub use validating::{Locked, lock};

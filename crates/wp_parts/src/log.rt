@@ -94,9 +94,10 @@ impl<D: Disk> Log<D> {
         }
     }
 
-    /// The history, without what is pending.
+    /// The history, without what is pending. Its base is the log's as it was opened.
     pub fn history(&self) -> &History
-        ensures { result.now.entries ≡ self.now.state.history }
+        ensures entries { result.now.entries ≡ self.now.state.history }
+        ensures base { result.now.base ≡ self.now.first.segment.base }
     {
         &self.history
     }

@@ -2,7 +2,7 @@ use Rattle.std.proofs.Common.{sym, subst}
 use Rattle.wp_shared.specs.Calls.{Continues}
 use Rattle.wp_read.specs.Registers.{unregistering}
 use Rattle.wp_open_txns.specs.Txn.{OpenState, HasLocked}
-use Rattle.wp_open_txns.proofs.Pinned.{locked_unpinned, abandoned}
+use Rattle.wp_open_txns.proofs.Pinned.{locked_unpinned}
 use Rattle.wp_open_txns.proofs.names.abandon.Goals as goal
 
 pub free-requires-clause-has : goal.free-requires-clause-has

@@ -1,8 +1,7 @@
-use Rattle.std.proofs.Common.{◌≡◌, ℕ, length, refl, sym, ap, subst, ◌∙◌, Option, Err, Ok, Some}
+use Rattle.std.proofs.Common.{◌≡◌, ℕ, refl, sym, ap, subst, ◌∙◌, Option, Err, Ok, Some}
 use Rattle.std.specs.Prelude.{Result}
 use Rattle.std.proofs.lemmas.Result.{err_from_is_err_and}
 use Rattle.wp_core.specs.Reading.{Registration}
-use Rattle.wp_core.specs.World.{Participant}
 use Rattle.wp_shared.specs.Calls.{Continues}
 use Rattle.wp_read.specs.Registers.{unregistering}
 use Rattle.wp_open_txns.specs.declared.error.TxnError.{TxnError}

@@ -7,7 +7,6 @@ use Rattle.wp_core.specs.Changes.{with_name}
 use Rattle.wp_core.specs.Views.{locks_stay}
 use Rattle.wp_shared.specs.Seats.{SeatState}
 use Rattle.wp_shared.proofs.Goes.{none_under_locks}
-use Rattle.wp_shared.proofs.Onward.{holds_alone}
 use Rattle.wp_model.proofs.Keyed.{at_inserted}
 use Rattle.wp_open_txns.specs.Calls.{without_transaction, GivesUp, LocksAre}
 use Rattle.wp_open_txns.specs.Turns.{IsWithout}

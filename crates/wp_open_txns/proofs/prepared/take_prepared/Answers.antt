@@ -76,7 +76,7 @@ unreachable-requires g c =
     let name = c.args.name.now in let z = c.args.store.now in let d = c.take_turn-log.result.value.state in let k = c.take_turn-log.ensures.taken in let k2 = lent_as c.deref_mut.ensures.value c.take_turn-tables.ensures.taken in
     let held = c.take_under-outcome.ensures.holds (writes d ∷ []) (0 ∷ []) (holds_two (holds_alone c.requires k) k2) in
     let gave = c.give_turn-2.ensures (writes d ∷ []) (0 ∷ []) held in
-    let found : IsPrepareOf d.history name c.in-Ok.prepare = subst (λ (entries : List Entry). IsPrepareOf entries name c.in-Ok.prepare) (c.history.ensures ∙ ap (λ (x : LogState). x.state.history) c.deref.ensures) (c.in-Ok.ensures {u = tt}) in
+    let found : IsPrepareOf d.history name c.in-Ok.prepare = subst (λ (entries : List Entry). IsPrepareOf entries name c.in-Ok.prepare) (c.history.ensures.entries ∙ ap (λ (x : LogState). x.state.history) c.deref.ensures) (c.in-Ok.ensures {u = tt}) in
     not_none z c.args.seat.now d _ k _ _ k2 _ _ _ gave (c.give_turn-3.ensures [] [] (holds_next held gave.goes)) name (c.in_ok-outcome.ensures {u = tt}).answered.2
     (subst (λ (o : Option (ℕ × List Change)). IsPrepareOf d.history name o) c.in_default-prepare.is found)
 
@@ -85,7 +85,7 @@ returns g c =
     let name = c.args.name.now in let z = c.args.store.now in let d = c.take_turn-log.result.value.state in let k = c.take_turn-log.ensures.taken in let k2 = lent_as c.deref_mut.ensures.value c.take_turn-tables.ensures.taken in
     let held = c.take_under-outcome.ensures.holds (writes d ∷ []) (0 ∷ []) (holds_two (holds_alone c.requires k) k2) in
     let gave = c.give_turn-2.ensures (writes d ∷ []) (0 ∷ []) held in
-    let found : IsPrepareOf d.history name c.in-Ok.prepare = subst (λ (entries : List Entry). IsPrepareOf entries name c.in-Ok.prepare) (c.history.ensures ∙ ap (λ (x : LogState). x.state.history) c.deref.ensures) (c.in-Ok.ensures {u = tt}) in
+    let found : IsPrepareOf d.history name c.in-Ok.prepare = subst (λ (entries : List Entry). IsPrepareOf entries name c.in-Ok.prepare) (c.history.ensures.entries ∙ ap (λ (x : LogState). x.state.history) c.deref.ensures) (c.in-Ok.ensures {u = tt}) in
     let lent = c.deref-2.ensures ∙ sym c.deref_mut.ensures.value in
     let beyond = subst (λ (x : LockState). AreBeyond x name c.in-Some.batch c.in-Ok-keys_beyond.locked.items) lent
     (beyond_of c.deref-2.result.now name c.in-Ok-keys_beyond.locked.items c.as_ref.result c.in-Some.number c.in-Some.batch (c.as_ref.ensures.value ∙ c.in-Some.is) (c.in-Ok-keys_beyond.ensures {u = tt})) in

@@ -1,4 +1,4 @@
-use Rattle.std.proofs.Common.{[], ap, sym, subst, ◌∙◌, Err, is_some}
+use Rattle.std.proofs.Common.{[], ap, sym, subst, ◌∙◌, Err}
 use Rattle.std.specs.Prelude.{Result}
 use Rattle.std.proofs.lemmas.Result.{err_from_is_err_and}
 use Rattle.wp_shared.proofs.Onward.{continues_none, holds_alone}

@@ -1,11 +1,11 @@
-use Rattle.std.proofs.Common.{◌≡◌, ℕ, List, sym, ap, subst, ◌∙◌, Option, Some, None}
+use Rattle.std.proofs.Common.{ℕ, sym, ap, subst, ◌∙◌, Option}
 use Rattle.std.specs.FinMap as finite
 use Rattle.wp_core.specs.Lists.{IsIn}
 use Rattle.wp_core.specs.Sound.Views.{OwnsKey}
 use Rattle.wp_core.specs.Views.{unprepared}
 use Rattle.wp_open_txns.specs.Keys.{HoldsFree, Validates, FreesKey}
 use Rattle.wp_open_txns.specs.Txn.{OpenState}
-use Rattle.wp_open_txns.proofs.KeyTaken.{owns_held, pins_held, owns_looked, noted_looked, key_taken, key_conflicts, not_held}
+use Rattle.wp_open_txns.proofs.KeyTaken.{owns_held, pins_held, owns_looked, noted_looked, key_taken, key_conflicts}
 use Rattle.wp_open_txns.proofs.validating.take_key.Goals as goal
 
 pub hold_key-requires-clause-has : goal.hold_key-requires-clause-has

@@ -1,7 +1,6 @@
 use Rattle.std.proofs.Common.{sym, subst}
 use Rattle.wp_core.specs.Sound.Views.{OwnsKey}
 use Rattle.wp_open_txns.specs.Txn.{OpenState}
-use Rattle.wp_open_txns.proofs.KeyTaken.{validated, not_validated}
 use Rattle.wp_open_txns.proofs.validating.validate.Goals as goal
 
 pub changed_since-requires-clause-has : goal.changed_since-requires-clause-has

@@ -1,0 +1,4 @@
+pub mod Ranges
+pub mod Sources
+pub mod Copies
+mod Made
