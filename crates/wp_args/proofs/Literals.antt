@@ -5,7 +5,8 @@ use Rattle.clap.specs.Words.{Row, Text, first_of}
 use Rattle.clap.specs.declared.error.kind.ErrorKind.TheVariants as kind
 use Rattle.clap.proofs.OnLiterals.{clap_on_literals}
 use Rattle.wp_args.specs.declared.limits.TheConstants.{MOST_LIMIT, MOST_ID, MOST_SEED, LIMIT}
-use Rattle.wp_args.specs.Choice.{HasEntries, HasMaking, HasNumber, HasNumbers, IsChoice, IsTaken, command_name}
+use Rattle.wp_args.specs.Choice.{HasEntries, HasMaking, HasNumber, HasNumbers, HasOptions, IsChoice, IsTaken, command_name}
+use Rattle.wp_args.specs.CopyChoice.{IsCopyChoice, IsCopyTaken}
 use Rattle.wp_args.specs.declared.choice.Action.{Action}
 use Rattle.wp_args.specs.declared.choice.Action.TheVariants.{Run, Show, Make}
 use Rattle.wp_args.proofs.Entries.{one_number}
@@ -43,18 +44,18 @@ has_number : (entries : List Row) (argument text : Text) (least most number : �
 has_number entries argument text least most number is low high entry = record { spelled = entry ∙ ap Some is; low = low; high = high }
 
 -- the defaults are in range
+default_options : (entries : List Row) (bits : ℕ) → HasNumber entries (codes "bits") 0 16 bits → first_of (codes "limit") entries ≡ Some LIMIT.now → first_of (codes "id") entries ≡ Some (codes "1")
+    → HasOptions entries (record { bits = bits; limit = MOST_LIMIT; id = 1 })
+default_options entries bits has_bits limit id = record {
+  bits = has_bits;
+  limit = has_number entries (codes "limit") LIMIT.now 1 MOST_LIMIT MOST_LIMIT largest (omega arith) (omega arith) limit;
+  id = has_number entries (codes "id") (codes "1") 1 MOST_ID 1 one (omega arith) (omega arith) id;
+}
+
 has_defaults : (name : Text) (entries : List Row) (action : Action) → name ≡ command_name action → HasNumbers entries action → (bits : ℕ) → HasNumber entries (codes "bits") 0 16 bits
     → first_of (codes "limit") entries ≡ Some LIMIT.now → first_of (codes "id") entries ≡ Some (codes "1")
     → HasEntries name entries (record { action = action; store = record { bits = bits; limit = MOST_LIMIT; id = 1 } })
-has_defaults name entries action named numbers bits has_bits limit id = record {
-  action = named;
-  numbers = numbers;
-  options = record {
-    bits = has_bits;
-    limit = has_number entries (codes "limit") LIMIT.now 1 MOST_LIMIT MOST_LIMIT largest (omega arith) (omega arith) limit;
-    id = has_number entries (codes "id") (codes "1") 1 MOST_ID 1 one (omega arith) (omega arith) id;
-  };
-}
+has_defaults name entries action named numbers bits has_bits limit id = record { action = named; numbers = numbers; options = default_options entries bits has_bits limit id }
 
 default_bits : (entries : List Row) → first_of (codes "bits") entries ≡ Some (codes "10") → HasNumber entries (codes "bits") 0 16 10
 default_bits entries = has_number entries (codes "bits") (codes "10") 0 16 10 ten (omega arith) (omega arith)
@@ -118,3 +119,25 @@ many_clients_refused = λ taken. crowded _ taken.0.action taken.1.entered.action
 pub no_lines_refused : ¬ IsTaken (codes "wp" ∷ codes "make" ∷ codes "7" ∷ codes "8" ∷ [])
 unfolding clap_on_literals
 no_lines_refused = λ taken. let missing : kind.MissingRequiredArgument ∷ [] ≡ [] = taken.1.accepted in cc
+
+-- ---- copies
+
+pub copy_alone : IsCopyChoice (codes "wp" ∷ codes "copy" ∷ []) (record { bits = 10; limit = MOST_LIMIT; id = 1 })
+unfolding clap_on_literals
+copy_alone = record { accepted = refl; entered = default_options _ 10 (default_bits _ refl) refl refl }
+
+pub copy_not_run : ¬ IsTaken (codes "wp" ∷ codes "copy" ∷ [])
+unfolding clap_on_literals
+copy_not_run = λ taken. let unknown : kind.UnknownArgument ∷ kind.InvalidSubcommand ∷ [] ≡ [] = taken.1.accepted in cc
+
+pub run_not_copy : ¬ IsCopyTaken (codes "wp" ∷ codes "run" ∷ [])
+unfolding clap_on_literals
+run_not_copy = λ taken. let unknown : kind.UnknownArgument ∷ kind.InvalidSubcommand ∷ [] ≡ [] = taken.1.accepted in cc
+
+pub more_not_copy : ¬ IsCopyTaken (codes "wp" ∷ codes "copy" ∷ codes "x" ∷ [])
+unfolding clap_on_literals
+more_not_copy = λ taken. let unknown : kind.UnknownArgument ∷ [] ≡ [] = taken.1.accepted in cc
+
+pub many_bits_not_copied : ¬ IsCopyTaken (codes "wp" ∷ codes "copy" ∷ codes "--bits" ∷ codes "17" ∷ [])
+unfolding clap_on_literals
+many_bits_not_copied = λ taken. out_of_range _ (codes "bits") (codes "17") 0 16 17 taken.0.bits (omega arith) (omega arith) seventeen (λ low. omega arith) refl taken.1.entered.bits

@@ -40,3 +40,7 @@ plain_commands =
 
 abbrev pub command_set : App
 command_set = with_subcommand plain_commands make_command.top
+
+-- the program with the command that a copy of a store is made by
+abbrev pub copy_set : App
+copy_set = with_subcommand program (store_command (codes "copy")).top

@@ -1,2 +1,3 @@
 pub mod CommandSet
 pub mod Choice
+pub mod CopyChoice

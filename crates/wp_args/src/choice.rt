@@ -73,7 +73,7 @@ fn choice_in(matches: &ArgMatches<'_>) -> Option<Choice>
 }
 
 /// The numbers of the options of a command on a store.
-fn options_in(entries: &ArgMatches<'_>) -> Option<StoreOptions>
+pub(crate) fn options_in(entries: &ArgMatches<'_>) -> Option<StoreOptions>
     ensures numbers { IfSome result (HasOptions (rows_of (found_of entries.now))) }
     ensures none { IfNone result ((options : _) → ¬ HasOptions (rows_of (found_of entries.now)) options) }
 {

@@ -3,7 +3,7 @@
 ghost use Rattle.std.specs.Prelude.{◌≡◌, IfOk, false};
 ghost use Rattle.clap.specs.Words.{app_of, rule_of, with_rule, with_subcommand};
 ghost use Rattle.clap.specs.declared.builder.command.Command.TheViews.{out-Command as fields_of};
-ghost use Rattle.wp_args.specs.CommandSet.{command_set, make_command, number_option, number_word, plain_commands, program, store_command};
+ghost use Rattle.wp_args.specs.CommandSet.{command_set, copy_set, make_command, number_option, number_word, plain_commands, program, store_command};
 
 use crate::limits::{BITS, ID, LIMIT};
 use clap::{Arg, Command};
@@ -14,6 +14,13 @@ pub(crate) fn command_set<'a>(alloc: Global) -> Result<Command<'a>, AllocError>
     ensures set { IfOk result (λ set. app_of set ≡ command_set) }
 {
     plain_commands(alloc)?.subcommand(make_command(alloc)?)
+}
+
+/// The program with the command that a copy of a store is made by.
+pub(crate) fn copy_set<'a>(alloc: Global) -> Result<Command<'a>, AllocError>
+    ensures set { IfOk result (λ set. app_of set ≡ copy_set) }
+{
+    with_command(alloc, program(alloc), "copy")
 }
 
 /// The program with the commands that have options alone.

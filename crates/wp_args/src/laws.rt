@@ -3,6 +3,7 @@
 ghost use Rattle.std.specs.Prelude.{◌≡◌, List, [], ◌∷◌, codes};
 ghost use Rattle.clap.specs.Words.{Text};
 ghost use Rattle.wp_args.specs.Choice.{IsChoice, IsTaken};
+ghost use Rattle.wp_args.specs.CopyChoice.{IsCopyChoice, IsCopyTaken};
 
 use crate::{Action, MOST_LIMIT};
 
@@ -38,4 +39,20 @@ pub fn other_words_are_refused()
 pub fn words_choose_once()
     ensures { (words : List Text) (one other : _)
         → IsChoice words one → IsChoice words other → one ≡ other }
+{}
+
+/// A copy is chosen by its own command, and by no other; and that command chooses nothing else.
+pub fn copies_are_chosen_apart()
+    ensures alone { IsCopyChoice (codes "wp" ∷ codes "copy" ∷ []) (record { bits = 10; limit = MOST_LIMIT; id = 1 }) }
+    ensures no_run { ¬ IsTaken (codes "wp" ∷ codes "copy" ∷ []) }
+    ensures no_other { ¬ IsCopyTaken (codes "wp" ∷ codes "run" ∷ []) }
+    ensures no_words { ¬ IsCopyTaken [] }
+    ensures no_more { ¬ IsCopyTaken (codes "wp" ∷ codes "copy" ∷ codes "x" ∷ []) }
+    ensures many_bits { ¬ IsCopyTaken (codes "wp" ∷ codes "copy" ∷ codes "--bits" ∷ codes "17" ∷ []) }
+{}
+
+/// Words choose one copy at most.
+pub fn copy_words_choose_once()
+    ensures { (words : List Text) (one other : _)
+        → IsCopyChoice words one → IsCopyChoice words other → one ≡ other }
 {}

@@ -204,7 +204,8 @@ module _ (asked : ℕ) (log manifest tables : List Moment) (wal : WalState) (his
     in_memory = λ key p value above is. at_memory key p ∙ later_each history flushed key p opened.store.legal above ∙ is;
   }
 
-  closed_undo : undone_last history ≡ None
+  -- no undo ends the history
+  pub closed_undo : undone_last history ≡ None
   closed_undo =
       ap undone_last opened.store.full ∙ full_undone cut in_tables ∙ cut_closes wal.format wal.segment.place opened.opened.stores.records cut opened.opened.stores.spelled
 

@@ -86,7 +86,7 @@ module _ {D : Type 0} (z : SharedState D) (s : Serving) (answered : List Answere
   replies = replies_of answered
 
   -- what the commands came to that ran
-  headline : (parts : List Part) → run.run ≡ parts → (h : Headline s (faults_in run.ended) parts) × exactly s (faults_in run.ended) parts h × (h.replies ≡ replies) × (h.left.history ≡ history) × (h.store ≡ store) × (h.found.edit.segment.base ≡ base)
+  pub headline : (parts : List Part) → run.run ≡ parts → (h : Headline s (faults_in run.ended) parts) × exactly s (faults_in run.ended) parts h × (h.replies ≡ replies) × (h.left.history ≡ history) × (h.store ≡ store) × (h.found.edit.segment.base ≡ base) × (h.id ≡ run.ended.opened.wal.id)
   headline parts is =
       let e = subst (λ (ran : List Part). Explains limits (faults_in run.ended) s.script ran (found_in run.ended) (left_in run.ended) (failed_in run.ended) replies) is run.explained in (
         record {
@@ -115,6 +115,7 @@ module _ {D : Type 0} (z : SharedState D) (s : Serving) (answered : List Answere
         refl,
         refl,
         sym based,
+        refl,
       )
 
   lacks : LacksMemory s (exactly s)
@@ -165,6 +166,8 @@ module _ {D : Type 0} (z : SharedState D) (s : Serving) (answered : List Answere
   serves_run (status.Script fault) h = absurd h.1
   serves_run (status.Contents damage) h = absurd h.1
   serves_run (status.OpenFault d) h = absurd h.1
+  serves_run (status.CopyFault d) h = absurd h.1
+  serves_run (status.CopyHeld d) h = absurd h.1
 
 pub serves_refused : (why : OpenError) (end : Status) (s : Serving) → IsStatusOf why end → IsUnopened s.choice.store.id s.disks why → ServesExactly s end
 serves_refused open_error.Memory end s is refused = rw is (inl refused)
@@ -184,6 +187,8 @@ serves_only s status.Memory (inl none) = inl none
 serves_only s status.Memory (inr lacks) = inr (record { faults = lacks.faults; run = lacks.run; first = lacks.first; headline = lacks.headline; also = tt })
 serves_only s (status.Contents damage) h = h
 serves_only s (status.OpenFault device) h = h
+serves_only s (status.CopyFault device) h = h
+serves_only s (status.CopyHeld device) h = h
 serves_only s status.Words h = h
 serves_only s status.SourceFault h = h
 serves_only s (status.Script fault) h = h
@@ -217,6 +222,8 @@ served_ends call status.LogFault h = h
 served_ends call status.TableFault h = h
 served_ends call (status.Contents damage) h = h
 served_ends call (status.OpenFault device) h = h
+served_ends call (status.CopyFault device) h = absurd h.served
+served_ends call (status.CopyHeld device) h = absurd h.served
 
 served_only : (call : Call) (end : Status) → IsServed ServesExactly call end → IsServed Serves call end
 served_only call end h = record { choice = h.choice; chosen = h.chosen; script = h.script; read = h.read; served = serves_only _ end h.served }
@@ -233,6 +240,8 @@ ends_only call status.LogFault h = served_only call status.LogFault h
 ends_only call status.TableFault h = served_only call status.TableFault h
 ends_only call (status.Contents damage) h = served_only call (status.Contents damage) h
 ends_only call (status.OpenFault device) h = served_only call (status.OpenFault device) h
+ends_only call (status.CopyFault device) h = served_only call (status.CopyFault device) h
+ends_only call (status.CopyHeld device) h = served_only call (status.CopyHeld device) h
 
 pub outcome : (call : Call) (end : Status) → Ends ServesExactly call end → IsDurable call.disks → IsOutcome call end
 outcome call end ends durable = record { ends = ends_only call end ends; alone = ends; durable = durable }

@@ -83,7 +83,7 @@ pub(crate) fn serve<R: Threads + Wait + Sync, D: Disk + Drop + Send, K: Sink, G:
     let Seating { client, room } = seating;
     let StoreOptions { bits, limit, id } = choice.store;
     match open_shared(alloc, client, disks, bits, limit, id) {
-        Ok((store, first)) => {
+        Ok((store, first, _id)) => {
             let run = run_script(rt, alloc, store, first, gate, parts, room);
             finish(alloc, choice.action, parts, run, sink)
         }

@@ -17,6 +17,8 @@ code_of status.LogFault = 7
 code_of status.TableFault = 8
 code_of (status.Contents bad) = 9
 code_of (status.OpenFault device) = 10
+code_of (status.CopyFault device) = 11
+code_of (status.CopyHeld device) = 12
 
 -- The text that names a status. Behind that of a fault of the script, of the devices' bytes or of a device comes its own text.
 abbrev pub own_text : Status → List ℕ
@@ -30,12 +32,16 @@ own_text status.LogFault = codes "wp: log fault"
 own_text status.TableFault = codes "wp: table fault"
 own_text (status.Contents bad) = codes "wp: contents: "
 own_text (status.OpenFault device) = codes "wp: opening failed: "
+own_text (status.CopyFault device) = codes "wp: copy failed: "
+own_text (status.CopyHeld device) = codes "wp: copy not empty: "
 
 -- The line of a status is its text; or it begins with that, where a fault's own text follows, which no contract has.
 abbrev pub IsLine : Status → List ℕ → Type 0
 IsLine (status.Script fault) line = IsPrefix (own_text (status.Script fault)) line
 IsLine (status.Contents bad) line = IsPrefix (own_text (status.Contents bad)) line
 IsLine (status.OpenFault device) line = IsPrefix (own_text (status.OpenFault device)) line
+IsLine (status.CopyFault device) line = IsPrefix (own_text (status.CopyFault device)) line
+IsLine (status.CopyHeld device) line = IsPrefix (own_text (status.CopyHeld device)) line
 IsLine end line = line ≡ own_text end
 
 -- The last that a call may have come to: its words, the source, the disks or the sink.
@@ -52,6 +58,8 @@ stage_of (status.Script fault) = AtSource
 stage_of status.Memory = AtDisks
 stage_of (status.Contents damage) = AtDisks
 stage_of (status.OpenFault d) = AtDisks
+stage_of (status.CopyFault d) = AtDisks
+stage_of (status.CopyHeld d) = AtDisks
 stage_of status.Ok = AtSink
 stage_of status.LogFault = AtSink
 stage_of status.TableFault = AtSink

@@ -33,6 +33,11 @@ pub enum Status {
     Contents(Bad),
     /// The device failed while the store was opened. Nothing was written, and no entry was added.
     OpenFault(Device),
+    /// That device of a copy's target failed. Nothing was written to the sink, and the target has no copy.
+    CopyFault(Device),
+    /// That device of a copy's target is not empty: the first one in the order log, manifest, tables. The target is as it was, and nothing
+    /// was written.
+    CopyHeld(Device),
 }
 
 /// How a call ended, and the store's devices that it was handed.
@@ -71,7 +76,7 @@ fn naming<F: Display>(alloc: Global, text: &str, fault: &F) -> Result<Vec<u8>, A
 }
 
 impl Status {
-    /// The exit status of the program: 0 for `Ok`, else 2 to 10.
+    /// The exit status of the program: 0 for `Ok`, else 2 to 12.
     pub fn code(&self) -> u8
         ensures { result ≡ code_of self.now }
     {
@@ -86,6 +91,8 @@ impl Status {
             Status::TableFault => 8,
             Status::Contents(_) => 9,
             Status::OpenFault(_) => 10,
+            Status::CopyFault(_) => 11,
+            Status::CopyHeld(_) => 12,
         }
     }
 
@@ -104,6 +111,8 @@ impl Status {
             Status::TableFault => "wp: table fault",
             Status::Contents(_) => "wp: contents: ",
             Status::OpenFault(_) => "wp: opening failed: ",
+            Status::CopyFault(_) => "wp: copy failed: ",
+            Status::CopyHeld(_) => "wp: copy not empty: ",
         }
     }
 
@@ -115,7 +124,9 @@ impl Status {
         match self {
             Status::Script(fault) => naming(alloc, text, fault),
             Status::Contents(bad) => naming(alloc, text, bad),
-            Status::OpenFault(device) => naming(alloc, text, device),
+            Status::OpenFault(device) | Status::CopyFault(device) | Status::CopyHeld(device) => {
+                naming(alloc, text, device)
+            }
             _ => bytes_of(alloc, text),
         }
     }

@@ -3,3 +3,4 @@ pub mod Over
 pub mod Came
 pub mod Each
 pub mod Explained
+pub mod Idle

@@ -1,13 +1,14 @@
 //! The end of all sessions: their seats are handed in, and the store is ended.
-ghost use Rattle.std.specs.Prelude.{◌≡◌, ◌≤◌, ◌<◌, ℕ, List, [], map, vec_len, vec_capacity};
+ghost use Rattle.std.specs.Prelude.{◌≡◌, ◌≤◌, ◌<◌, [], map, vec_len, vec_capacity};
 ghost use Rattle.wp_model.specs.Flushed.{InstalledEdit};
 ghost use Rattle.wp_rule.specs.Shows.{WasLast};
 ghost use Rattle.wp_parts.specs.Parts.{content};
 ghost use Rattle.wp_parts.specs.Devices.{devices_of};
 ghost use Rattle.wp_shared.specs.Ending.{AreAll};
-ghost use Rattle.wp_seats.specs.New.{AreNew, clients_of, first_seat};
+ghost use Rattle.wp_seats.specs.New.{AreNew, clients_of};
 ghost use Rattle.wp_seats.specs.Lists.{seat_of};
 ghost use Rattle.wp_threads.specs.Explained.{HaveRun};
+ghost use Rattle.wp_threads.specs.Idle.{IsUnused};
 
 use crate::threads::run_all;
 use std::alloc::Global;
@@ -27,14 +28,14 @@ pub struct ScriptRun<D> {
     pub disks: Disks<D>,
 }
 
-/// Ends a store at which no session ran: its first seat is handed in alone. The list has room for it.
-pub(crate) fn end_unused<D: Disk + Drop>(
+/// Ends a store at which no session ran: its first seat is handed in alone, which may have read. The list has room for it.
+pub fn end_idle<D: Disk + Drop>(
     store: Shared<D>,
     first: Seat<D>,
     seats: Vec<Seat<D>>,
     answers: Vec<Answered>,
 ) -> ScriptRun<D>
-    requires first { (client : List ℕ) × (first ≡ first_seat store client) }
+    requires unused { IsUnused store first }
     requires empty { (seats.items ≡ []) × (answers.items ≡ []) }
     requires room { 0 < vec_capacity seats }
     ensures base { (first : InstalledEdit) → WasLast content store.first first → result.history.base ≡ first.segment.base }

@@ -14,6 +14,6 @@ mod script;
 mod session;
 mod threads;
 
-pub use ending::ScriptRun;
+pub use ending::{ScriptRun, end_idle};
 pub use script::run_script;
 pub use wp_seats::Seating;

@@ -7,7 +7,7 @@ ghost use Rattle.wp_parts.specs.Devices.{devices_of};
 ghost use Rattle.wp_seats.specs.New.{IsFirst, others_of};
 ghost use Rattle.wp_threads.specs.Explained.{HaveRun};
 
-use crate::ending::{ScriptRun, end_unused, run_to_end};
+use crate::ending::{ScriptRun, end_idle, run_to_end};
 use std::alloc::Global;
 use std::sync::Wait;
 use std::thread::Threads;
@@ -35,7 +35,7 @@ pub fn run_script<D: Disk + Drop + Send, G: Gate + Sync, R: Threads + Wait + Syn
 {
     let (names, sessions, seats, answers) = room.into_lists();
     if parts.is_empty() {
-        return end_unused(store, first, seats, answers);
+        return end_idle(store, first, seats, answers);
     }
     let sessions = seat_all(&store, alloc, first, names, sessions);
     run_to_end(rt, alloc, store, gate, parts, sessions, seats, answers)

@@ -1,8 +1,10 @@
-use Rattle.std.proofs.Common.{List, sym, subst}
+use Rattle.std.proofs.Common.{List, sym, ap, subst, ◌∙◌}
 use Rattle.wp_model.specs.declared.entry.Entry.{Entry}
+use Rattle.wp_model.specs.Legal.{undone_last}
 use Rattle.wp_refused.specs.Parts.{PartsOpened, ArePartsOf}
 use Rattle.wp_parts.specs.Devices.{DevicesLeft, devices_of}
 use Rattle.wp_opened.proofs.Opened.{refused_late}
+use Rattle.wp_opened.proofs.OpeningLemmas.{closed_undo}
 use Rattle.wp_opened.proofs.opening.open_shared.Goals as goal
 
 pub share-requires-clause-opened : goal.share-requires-clause-opened
@@ -25,6 +27,9 @@ returns-in-Ok-share-clause-opened g c =
       parts = subst (λ (h : List Entry). PartsOpened c.args.id old.log old.manifest old.tables parts.wal h parts.manifest tables parts.store) same e.opened;
       found = subst (λ (h : List Entry). ArePartsOf c.args.id old parts.wal h parts.manifest (g.D.Peek.faults parts.tables) parts.store) same e.found;
     }
+
+pub returns-in-Ok-share-clause-whole : goal.returns-in-Ok-share-clause-whole
+returns-in-Ok-share-clause-whole g c = ap undone_last c.in-Ok-share.ensures.store.0 ∙ closed_undo _ _ _ _ _ _ _ _ _ c.in-Ok.ensures.opened
 
 pub returns-in-Err-share-clause-refused : goal.returns-in-Err-share-clause-refused
 returns-in-Err-share-clause-refused g c =

@@ -1,0 +1,4 @@
+pub mod Idle
+pub mod Stands
+pub mod Ends
+pub mod Complete
