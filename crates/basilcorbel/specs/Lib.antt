@@ -1,5 +1,8 @@
+pub use Rattle.wp_checkpoint.specs.Copy
+pub use Rattle.wp_copy.specs.CopyAt
 pub use Rattle.wp_core.specs.Lists
 pub use Rattle.wp_model.specs.History
+pub use Rattle.wp_model.specs.Legal
 pub use Rattle.wp_model.specs.Rows
 pub use Rattle.wp_open_txns.specs.Txn
 pub use Rattle.wp_scan.specs.Scan

@@ -15,25 +15,30 @@
 //! - One change at once, by itself: `write`.
 //! - Reads: `snapshot` pins a moment of all keys, `get` reads one there, `Scan` the rows of a range one by one, `release` lets
 //!   go of it. `get_now` reads one key as of now, and `begin_read` begins to.
+//! - Copies: `copy_at` copies the store at a snapshot to three empty devices, with what is undecided there, while all others go on.
+//!   Between an undo and its close, which `undone_at` tells, another snapshot is to be taken. `checkpoint` copies any rows at any number.
 //! - Between clients: what one has told under a label with `tell`, another sees behind `hear`.
 //! - Upkeep: `flush` moves what is in memory into a table, `compact` makes one table of all, and `renew` begins the log anew.
 //! - The end: `Shared::finish` takes all seats back, and hands out the history and the devices.
 //!
 //! Transactions, snapshots and seats are values that have to be spent: where a call refuses, it hands back what it was handed. A key has 1
 //! to 64 bytes, a value 1 to 256 and a name 1 to 32, each from 21 to 7E (hexadecimal); a transaction changes and locks at most 64 keys.
-//! Each refusal is a value (`OpenError`, `TxnError`, `MaintError`, `RenewError`, or want of memory), and each contract says when it comes
-//! and what it leaves. Before a call a seat has to be free, which each call leaves it: it holds no turn (`IsFree`); and at the end all
-//! seats have to be there (`AllFree`, `AreAll`). The modules with these words are passed on with the calls.
+//! Each refusal is a value (`OpenError`, `TxnError`, `MaintError`, `RenewError`, `CopyError`, or want of memory), and each contract
+//! says when it comes and what it leaves. Before a call a seat has to be free, which each call leaves it: it holds no turn (`IsFree`);
+//! and at the end all seats have to be there (`AllFree`, `AreAll`). The modules with these words are passed on with the calls.
 #![tactic(auto)]
 
+pub use wp_checkpoint::{Rows, checkpoint};
 pub use wp_compact::compact;
+pub use wp_copy::{AllRows, Copied, CopyAt, CopyError, CopyRefused, copy_at};
 pub use wp_group::{Group, GroupError};
 pub use wp_history::History;
 pub use wp_maint::{Done, MaintError, RenewError, Renewed, flush};
 pub use wp_model::{
-    Batch, Change, Holder, Key, MOST_KEY_BYTES, MOST_KEYS, MOST_NAME_BYTES, MOST_VALUE_BYTES, Name,
-    Row, Seq, Value, Word, WordError,
+    Batch, Carried, Change, Holder, Key, MOST_KEY_BYTES, MOST_KEYS, MOST_NAME_BYTES,
+    MOST_VALUE_BYTES, Name, Row, Seq, Value, Word, WordError,
 };
+pub use wp_open_txns::{undecided_at, undone_at};
 pub use wp_opened::open_shared;
 pub use wp_outside::{Device, Disk, Disks, Failed, Peek};
 pub use wp_read::{Begun, Snapshot, begin_read, get, get_now, release, snapshot};

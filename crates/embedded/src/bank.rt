@@ -2,13 +2,14 @@
 ghost use Rattle.std.specs.Prelude.{◌≡◌};
 ghost use Rattle.embedded.specs.Alone.{IsAlone};
 
+use crate::copying::copy;
 use crate::error::BankError;
 use crate::listing::{Listing, list};
 use crate::settling::settle;
 use crate::transfer::{Balances, decide, look, prepare_transfer};
 use basilcorbel::{
-    Change, Disk, Disks, Key, Name, OpenRefused, Seat, Seq, Shared, Value, leave, open_shared,
-    write,
+    Change, Copied, Disk, Disks, Key, Name, OpenRefused, Seat, Seq, Shared, Value, leave,
+    open_shared, write,
 };
 use std::alloc::Global;
 use std::fmt;
@@ -25,12 +26,19 @@ const ID: u32 = 1;
 
 /// What came of the transfers, and what all accounts have behind them.
 #[derive(Drop)]
-pub(crate) struct Told {
+struct Served {
     prepared: Seq,
     decided: Seq,
     balances: Balances,
     settled: Seq,
     listing: Listing,
+}
+
+/// What came of the transfers, and of the copy behind them.
+#[derive(Drop)]
+pub(crate) struct Told {
+    served: Served,
+    copied: Copied,
 }
 
 /// The two accounts.
@@ -52,7 +60,7 @@ fn shown(balance: &Option<Value>) -> &str {
     }
 }
 
-impl fmt::Display for Told {
+impl fmt::Display for Served {
     fn fmt<W: fmt::Write>(&self, f: &mut fmt::Formatter<W>) -> fmt::Result {
         let Balances { at, payer, payee } = &self.balances;
         writeln!(f, "prepared @{}", self.prepared)?;
@@ -64,6 +72,18 @@ impl fmt::Display for Told {
             write!(f, "\n{} {}", text(row.key.bytes()), text(row.value.bytes()))?;
         }
         Ok(())
+    }
+}
+
+impl fmt::Display for Told {
+    fn fmt<W: fmt::Write>(&self, f: &mut fmt::Formatter<W>) -> fmt::Result {
+        let Copied {
+            at,
+            versions,
+            carried,
+        } = self.copied;
+        writeln!(f, "{}", self.served)?;
+        write!(f, "copied @{at}: {versions} versions, {carried} prepared")
     }
 }
 
@@ -124,7 +144,7 @@ fn serve<D: Disk + Drop, R: Wait>(
     alloc: Global,
     seat: &mut Seat<D>,
     accounts: &Accounts,
-) -> Result<Told, BankError>
+) -> Result<Served, BankError>
     requires alone { IsAlone store.now seat.old }
     requires idle { seat.old.knows.participant.direct ≡ None }
     ensures { IsAlone store.now seat.new }
@@ -142,7 +162,7 @@ fn serve<D: Disk + Drop, R: Wait>(
     let first = Key::read(alloc, b"a")?;
     let last = Key::read(alloc, b"z")?;
     let listing = list(store, rt, alloc, seat, &first, &last)?;
-    Ok(Told {
+    Ok(Served {
         prepared: number,
         decided,
         balances,
@@ -151,11 +171,12 @@ fn serve<D: Disk + Drop, R: Wait>(
     })
 }
 
-/// Keeps a store on these devices for the transfers.
+/// Keeps a store on these devices for the transfers, and copies it to empty ones.
 pub(crate) fn keep<D: Disk + Drop, R: Wait>(
     rt: &R,
     alloc: Global,
     disks: Disks<D>,
+    target: Disks<D>,
 ) -> Result<Told, BankError> {
     let accounts = Accounts {
         payer: Key::read(alloc, b"anna")?,
@@ -164,11 +185,15 @@ pub(crate) fn keep<D: Disk + Drop, R: Wait>(
     let teller = Name::read(alloc, b"teller")?;
     let mut seats = Vec::with_capacity(alloc, 1)?;
     match open_shared(alloc, teller, disks, BITS, LIMIT, ID) {
-        Ok((store, mut seat)) => {
-            let told = serve(&store, rt, alloc, &mut seat, &accounts);
+        Ok((store, mut seat, _id)) => {
+            let served = serve(&store, rt, alloc, &mut seat, &accounts);
+            let (seat, copied) = copy(&store, rt, alloc, seat, target);
             seats.push_reserved(seat);
             store.finish(seats);
-            told
+            Ok(Told {
+                served: served?,
+                copied: copied?,
+            })
         }
         Err(OpenRefused { why, .. }) => Err(BankError::Opening(why)),
     }

@@ -1,4 +1,4 @@
-use basilcorbel::{OpenError, TxnError, WordError};
+use basilcorbel::{CopyError, OpenError, TxnError, WordError};
 use std::alloc::AllocError;
 use std::fmt;
 
@@ -12,6 +12,10 @@ pub(crate) enum BankError {
     Opening(OpenError),
     /// A call on the store was refused.
     Refused(TxnError),
+    /// A transaction is undone, and not closed yet.
+    Undone,
+    /// The store was not copied.
+    Copying(CopyError),
 }
 
 impl From<AllocError> for BankError {
@@ -42,6 +46,8 @@ impl fmt::Display for BankError {
             BankError::Word => "a bad word",
             BankError::Opening(_) => "the store was not opened",
             BankError::Refused(_) => "the store refused",
+            BankError::Undone => "an undo is not closed",
+            BankError::Copying(_) => "the store was not copied",
         })
     }
 }

@@ -1,8 +1,7 @@
 //! The rows of a range of keys at one moment, by calls of a store's only seat.
 ghost use Rattle.std.specs.Prelude.{◌≡◌, map, IfOk};
 ghost use Rattle.basilcorbel.specs.Lists.{IsIn};
-ghost use Rattle.basilcorbel.specs.Rows.{rows};
-ghost use Rattle.basilcorbel.specs.Scan.{pair_of};
+ghost use Rattle.basilcorbel.specs.Rows.{pair_of, rows};
 ghost use Rattle.embedded.specs.Alone.{IsAlone};
 
 use basilcorbel::{Disk, Key, Row, Scan, Seat, Seq, Shared, Snapshot, release, snapshot};

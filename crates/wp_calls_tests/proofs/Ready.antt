@@ -41,7 +41,7 @@ use Rattle.wp_maint.specs.declared.renewed.RenewError.TheVariants as renew
 use Rattle.wp_maint.specs.Calls.{Flushes}
 use Rattle.wp_maint.specs.Renewal.{Renews}
 use Rattle.wp_compact.specs.Calls.{Compacts}
-use Rattle.wp_calls_tests.specs.Ready.{IsReader, IsWriter}
+use Rattle.wp_calls_tests.specs.Ready.{HasSnapshot, IsFirst, IsReader, IsWriter}
 
 -- ---- versions
 
@@ -240,3 +240,15 @@ module _ {D : Type 0} (z : SharedState D) (old new : SeatState) (v : Option ℕ)
   pub renewed : (o : Option Registration) → IsReader z old o v → (answer : Result Renewed RenewError) → Renews z old answer new → IsReader z new o v
   renewed o was (Err renew.Memory) (t, k) = same o was _ k.goes_on refl refl
   renewed o was _ (t, k) = same o was _ k.goes_on refl refl
+
+-- ---- the first seat
+
+module _ {D : Type 0} (z : SharedState D) (old new : SeatState) (was : IsFirst z old) where
+  pub first_still : (Stays : Fact → Type 0) (after : Participant) → ContinuesWith Stays z old new after → IsFirst z new
+  first_still Stays after goes = record { free = goes.free; first = goes.same_by ∙ was.first; made = goes.made ∙ was.made; joined = goes.joined ∙ was.joined }
+
+  pub has_snapshot : (r : Registration) → Continues z old new (record old.knows.participant { registered = old.knows.participant.registered ++ r ∷ [] }) → HasSnapshot z (new, r)
+  has_snapshot r goes = (first_still IsLoose _ goes, subst (λ (x : Participant). IsIn r x.registered) (sym goes.participant) (in_back old.knows.participant.registered r))
+
+  pub snapshot_still : (r : Registration) → IsIn r old.knows.participant.registered → Continues z old new old.knows.participant → HasSnapshot z (new, r)
+  snapshot_still r has goes = (first_still IsLoose _ goes, subst (λ (x : Participant). IsIn r x.registered) (sym goes.participant) has)

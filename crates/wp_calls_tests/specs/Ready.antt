@@ -28,3 +28,14 @@ pub record IsReader {D : Type 0} (z : SharedState D) (s : SeatState) (snapshot :
   pub direct : s.knows.participant.direct ≡ None
   pub registered : IfSome snapshot (λ r. IsIn r s.knows.participant.registered)
   pub has_version : IfSome version (λ p. has_versions_at s.knows.participant.seen p ≡ true)
+
+-- The first seat of a store, which made two others and took none in, between two calls.
+pub record IsFirst {D : Type 0} (z : SharedState D) (s : SeatState) : Type 0 where
+  pub free : IsFree z.table s
+  pub first : s.by ≡ 0
+  pub made : s.knows.made ≡ 2
+  pub joined : s.knows.joined ≡ []
+
+-- it is, and the snapshot is its own
+abbrev pub HasSnapshot : {D : Type 0} → SharedState D → SeatState × Registration → Type 0
+HasSnapshot z p = IsFirst z p.0 × IsIn p.1 p.0.knows.participant.registered

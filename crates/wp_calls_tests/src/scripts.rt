@@ -1,10 +1,11 @@
 //! Scripts: what two clients of a store do, and what it says, step by step.
-ghost use Rattle.std.specs.Prelude.{◌≡◌, ◌≤◌, true, IfSome};
+ghost use Rattle.std.specs.Prelude.{◌≡◌, ◌≤◌, true, None, IfSome};
 ghost use Rattle.wp_core.specs.Sound.Snapshots.{has_versions_at};
-ghost use Rattle.wp_calls_tests.specs.Ready.{IsReader, IsWriter};
+ghost use Rattle.wp_shared.specs.Seats.{IsFree};
+ghost use Rattle.wp_calls_tests.specs.Ready.{IsFirst, IsReader, IsWriter};
 
 use crate::reader::{Reading, glance, learn, read};
-use crate::stores::{Seats, end, opened};
+use crate::stores::{Seats, end, new_disks, opened};
 use crate::writer::{Writing, key, write};
 use std::alloc::Global;
 use std::process::Abort;
@@ -12,6 +13,7 @@ use std::sync::Wait;
 use std::test::*;
 use wp_memory::MemDisk;
 use wp_model::Seq;
+use wp_outside::Disks;
 use wp_read::Snapshot;
 use wp_scan::Scan;
 use wp_shared::{Seat, Shared};
@@ -32,14 +34,14 @@ pub(super) enum Step {
 }
 
 /// What the clients have. It has to be let go.
-struct Held {
-    begun: Option<OpenTxn>,
-    prepared: Option<PreparedTxn>,
+pub(super) struct Held {
+    pub(super) begun: Option<OpenTxn>,
+    pub(super) prepared: Option<PreparedTxn>,
     /// The number of the entry with versions that the first client's last step made or took.
-    made: Option<Seq>,
-    snapshot: Option<Snapshot>,
+    pub(super) made: Option<Seq>,
+    pub(super) snapshot: Option<Snapshot>,
     /// The number of an entry with versions, which the second client has seen.
-    version: Option<Seq>,
+    pub(super) version: Option<Seq>,
 }
 
 impl Held {
@@ -142,53 +144,90 @@ fn take<R: Abort + Wait>(
     }
 }
 
-/// A scan from `a` to `f`.
-fn begun<R: Abort>(rt: &R, alloc: Global) -> Scan {
+/// The two clients of a store, each with its seat, and the second one's scan.
+pub(super) struct Clients {
+    pub(super) one: Seat<MemDisk>,
+    pub(super) two: Seat<MemDisk>,
+    pub(super) held: Held,
+    scan: Scan,
+}
+
+/// Clients that have nothing yet. The scan is from `a` to `f`.
+pub(super) fn clients_of<R: Abort>(
+    rt: &R,
+    alloc: Global,
+    one: Seat<MemDisk>,
+    two: Seat<MemDisk>,
+) -> Clients
+    ensures seats { (result.one ≡ one) × (result.two ≡ two) }
+    ensures held { result.held ≡ record { begun = None; prepared = None; made = None; snapshot = None; version = None } }
+{
     let Ok(scan) = Scan::begin(alloc, &key(rt, alloc, b"a"), &key(rt, alloc, b"f")) else {
         panic!(rt; "no memory for a scan");
     };
-    scan
+    let held = Held::of(None, None, None, None, None);
+    Clients {
+        one,
+        two,
+        held,
+        scan,
+    }
 }
 
-/// Opens a store with a commit cache of so many bits, at most 16, takes the steps and ends it.
-pub(super) fn play<R: Abort + Wait>(rt: &R, alloc: Global, name: &str, bits: u32, steps: &[Step])
-    requires { bits ≤ 16 }
+/// Takes the steps, each of which has to say what it has to.
+pub(super) fn go_on<R: Abort + Wait>(
+    store: &Shared<MemDisk>,
+    rt: &R,
+    alloc: Global,
+    clients: Clients,
+    name: &str,
+    steps: &[Step],
+) -> Clients
+    requires one { IsWriter store.now clients.one clients.held.begun clients.held.prepared }
+    requires made { IfSome clients.held.made (λ p. has_versions_at clients.one.knows.participant.seen p ≡ true) }
+    requires two { IsReader store.now clients.two clients.held.snapshot clients.held.version }
+    ensures one { IsWriter store.now result.one result.held.begun result.held.prepared }
+    ensures made { IfSome result.held.made (λ p. has_versions_at result.one.knows.participant.seen p ≡ true) }
+    ensures two { IsReader store.now result.two result.held.snapshot result.held.version }
 {
-    let Seats {
-        store,
-        first,
-        mut writing,
-        mut reading,
-    } = opened(rt, alloc, bits);
-    let mut scan = begun(rt, alloc);
-    let mut held = Held::of(None, None, None, None, None);
+    let Clients {
+        mut one,
+        mut two,
+        mut held,
+        mut scan,
+    } = clients;
     for (place, step) in steps.iter().enumerate() {
-        let (next, outcome) = take_once(
-            &store,
-            rt,
-            alloc,
-            &mut writing,
-            &mut reading,
-            held,
-            &mut scan,
-            *step,
-        );
-        let (next, outcome) = match outcome {
-            None => take_once(
-                &store,
-                rt,
-                alloc,
-                &mut writing,
-                &mut reading,
-                next,
-                &mut scan,
-                *step,
-            ),
-            Some(is_so) => (next, Some(is_so)),
-        };
+        let (next, outcome) = take(store, rt, alloc, &mut one, &mut two, held, &mut scan, *step);
         assert!(rt; matches!(outcome, Some(true)), "{name}, step {place}");
         held = next;
     }
+    Clients {
+        one,
+        two,
+        held,
+        scan,
+    }
+}
+
+/// Ends the store of two clients that have nothing left.
+pub(super) fn leave_store<R: Abort>(
+    rt: &R,
+    alloc: Global,
+    name: &str,
+    store: Shared<MemDisk>,
+    first: Seat<MemDisk>,
+    clients: Clients,
+)
+    requires first { IsFirst store first }
+    requires one { IsFree store.table clients.one }
+    requires two { IsFree store.table clients.two }
+{
+    let Clients {
+        one: writing,
+        two: reading,
+        held,
+        scan: _scan,
+    } = clients;
     let Held {
         begun,
         prepared,
@@ -208,4 +247,33 @@ pub(super) fn play<R: Abort + Wait>(rt: &R, alloc: Global, name: &str, bits: u32
         }
         (_begun, _prepared, _snapshot) => panic!(rt; "{name}: a client has something left"),
     }
+}
+
+/// Opens the store of these devices with a commit cache of so many bits, at most 16, takes the steps and ends it.
+pub(super) fn play_on<R: Abort + Wait>(
+    rt: &R,
+    alloc: Global,
+    disks: Disks<MemDisk>,
+    name: &str,
+    bits: u32,
+    steps: &[Step],
+)
+    requires { bits ≤ 16 }
+{
+    let Seats {
+        store,
+        first,
+        writing,
+        reading,
+    } = opened(rt, alloc, disks, bits);
+    let clients = clients_of(rt, alloc, writing, reading);
+    let clients = go_on(&store, rt, alloc, clients, name, steps);
+    leave_store(rt, alloc, name, store, first, clients);
+}
+
+/// Takes the steps in a new store.
+pub(super) fn play<R: Abort + Wait>(rt: &R, alloc: Global, name: &str, bits: u32, steps: &[Step])
+    requires { bits ≤ 16 }
+{
+    play_on(rt, alloc, new_disks(rt, alloc), name, bits, steps);
 }

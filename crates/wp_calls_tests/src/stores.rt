@@ -1,6 +1,7 @@
 //! Stores over devices in memory, each with a seat for each of two clients.
-ghost use Rattle.std.specs.Prelude.{◌≡◌, ◌≤◌, [], None};
+ghost use Rattle.std.specs.Prelude.{◌≡◌, ◌≤◌, None};
 ghost use Rattle.wp_shared.specs.Seats.{IsFree};
+ghost use Rattle.wp_calls_tests.specs.Ready.{IsFirst};
 
 use std::alloc::Global;
 use std::process::Abort;
@@ -21,6 +22,14 @@ fn device<R: Abort>(rt: &R, alloc: Global) -> MemDisk {
     disk
 }
 
+pub(super) fn new_disks<R: Abort>(rt: &R, alloc: Global) -> Disks<MemDisk> {
+    Disks {
+        log: device(rt, alloc),
+        manifest: device(rt, alloc),
+        tables: device(rt, alloc),
+    }
+}
+
 pub(super) fn name<R: Abort>(rt: &R, alloc: Global, bytes: &[u8]) -> Name {
     let Ok(name) = Name::read(alloc, bytes) else {
         panic!(rt; "no memory for a name");
@@ -28,7 +37,7 @@ pub(super) fn name<R: Abort>(rt: &R, alloc: Global, bytes: &[u8]) -> Name {
     name
 }
 
-/// A new store: its first seat, and two that this one made.
+/// A store: its first seat, and two that this one made.
 pub(super) struct Seats {
     pub(super) store: Shared<MemDisk>,
     pub(super) first: Seat<MemDisk>,
@@ -37,19 +46,20 @@ pub(super) struct Seats {
 }
 
 /// Opens such a store with a commit cache of so many bits, at most 16.
-pub(super) fn opened<R: Abort>(rt: &R, alloc: Global, bits: u32) -> Seats
+pub(super) fn opened<R: Abort>(rt: &R, alloc: Global, disks: Disks<MemDisk>, bits: u32) -> Seats
     requires { bits ≤ 16 }
-    ensures first { IsFree result.store.table result.first × (result.first.by ≡ 0) × (result.first.knows.joined ≡ []) × (result.first.knows.made ≡ 2) }
+    ensures first { IsFirst result.store result.first }
     ensures writing { IsFree result.store.table result.writing × (result.writing.knows.participant.direct ≡ None) }
     ensures reading { IsFree result.store.table result.reading × (result.reading.knows.participant.direct ≡ None) }
 {
-    let disks = Disks {
-        log: device(rt, alloc),
-        manifest: device(rt, alloc),
-        tables: device(rt, alloc),
-    };
-    let Ok((store, mut first)) = open_shared(alloc, name(rt, alloc, b"a"), disks, bits, MOST, 1)
-    else {
+    let Ok((store, mut first, _id)) = open_shared(
+        alloc,
+        name(rt, alloc, b"a"),
+        disks,
+        bits,
+        MOST,
+        1,
+    ) else {
         panic!(rt; "no memory for the store");
     };
     let writing = store.seat(&mut first, name(rt, alloc, b"b"));
@@ -64,7 +74,7 @@ pub(super) fn opened<R: Abort>(rt: &R, alloc: Global, bits: u32) -> Seats
 
 /// Ends the store.
 pub(super) fn end<R: Abort>(rt: &R, alloc: Global, seats: Seats)
-    requires first { IsFree seats.store.table seats.first × (seats.first.by ≡ 0) × (seats.first.knows.joined ≡ []) × (seats.first.knows.made ≡ 2) }
+    requires first { IsFirst seats.store seats.first }
     requires writing { IsFree seats.store.table seats.writing }
     requires reading { IsFree seats.store.table seats.reading }
 {

@@ -1,6 +1,6 @@
 use Rattle.std.proofs.Common.{◌≡◌, ◌++◌, length, map}
-use Rattle.basilcorbel.specs.Rows.{rows}
-use Rattle.basilcorbel.specs.Scan.{left_of, pair_of}
+use Rattle.basilcorbel.specs.Rows.{pair_of, rows}
+use Rattle.basilcorbel.specs.Scan.{left_of}
 use Rattle.embedded.specs.Alone.{IsAlone}
 use Rattle.embedded.proofs.listing.rows_at.Given as goal
 
