@@ -2,8 +2,9 @@
 
 use crate::bytes::{Named, bytes_of};
 use crate::counts::{Counts, raise};
+use crate::device::Device;
 use crate::judge::{check_end, check_opened};
-use crate::play::{Outcome, Stored, play};
+use crate::play::{Outcome, Stored, makes_copy, play};
 use crate::report::{Report, text_of};
 use crate::run::Run;
 use crate::sweep::make_sweep;
@@ -60,18 +61,28 @@ fn keep<'a>(
     }
 }
 
-/// Makes a run on devices that begin with these bytes that time, and judges it.
+/// The bytes that the device begins with that time, where the run before left these. A copy is made to new devices.
+fn begun(report: &mut Report, run: &Run<'_>, device: &Device, left: &[u8], time: usize) -> Vec<u8> {
+    if makes_copy(run.words) {
+        device.begun(report, b"", time)
+    } else {
+        device.begun(report, left, time)
+    }
+}
+
+/// Makes a run on devices that begin with these bytes that time, and judges it. Where it makes a copy, that is of what was left.
 fn play_on<R: Threads + Wait + Sync>(
     rt: &R,
     report: &mut Report,
     run: &Run<'_>,
+    left: &Stored<'_>,
     begun: &Stored<'_>,
     time: usize,
 ) -> Option<Outcome> {
-    let outcome = play(rt, report, &run.call(), begun, &run.faults(time))?;
+    let outcome = play(rt, report, &run.call(), left, begun, &run.faults(time))?;
     check_end(report, run, begun, &outcome);
     check_opened(rt, report, run, &outcome);
-    make_sweep(rt, report, run, begun, &outcome);
+    make_sweep(rt, report, run, left, begun, &outcome);
     Some(outcome)
 }
 
@@ -120,11 +131,12 @@ impl<'a> Cases<'a> {
 
     /// Makes a run with what it has that time, and keeps what it leaves. Answers whether it is to be made once more.
     fn play_once<R: Threads + Wait + Sync>(&mut self, rt: &R, run: &Run<'a>, time: usize) -> bool {
-        let begun_log = run.log.begun(&mut self.report, &self.log, time);
-        let begun_manifest = run.manifest.begun(&mut self.report, &self.manifest, time);
-        let begun_tables = run.tables.begun(&mut self.report, &self.tables, time);
-        let begun: Stored<'_> = [&begun_log, &begun_manifest, &begun_tables];
-        let Some(outcome) = play_on(rt, &mut self.report, run, &begun, time) else {
+        let begun_log = begun(&mut self.report, run, &run.log, &self.log, time);
+        let begun_manifest = begun(&mut self.report, run, &run.manifest, &self.manifest, time);
+        let begun_tables = begun(&mut self.report, run, &run.tables, &self.tables, time);
+        let stored: Stored<'_> = [&begun_log, &begun_manifest, &begun_tables];
+        let left: Stored<'_> = [&self.log, &self.manifest, &self.tables];
+        let Some(outcome) = play_on(rt, &mut self.report, run, &left, &stored, time) else {
             return false;
         };
         if !run.is_last(time) {

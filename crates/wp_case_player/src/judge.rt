@@ -6,14 +6,19 @@ use crate::run::Run;
 use std::sync::Wait;
 use std::thread::Threads;
 
-/// The text that is due: none where the run is refused, and else the replies and the history, as far as there is room.
+/// The text that is due: none where the run is refused, and else what is told of a copy, or the replies and the history, as far as
+/// there is room.
 fn text_due(report: &mut Report, run: &Run<'_>) -> Vec<u8> {
     let mut text = Vec::new(report.alloc);
     let (code, _) = run.status.split_once(' ').unwrap_or(("", ""));
     if matches!(code, "0" | "5" | "7" | "8") {
-        report.push(&mut text, &run.replies);
-        report.push_line(&mut text, "history");
-        report.push(&mut text, &run.history);
+        if run.copied.is_empty() {
+            report.push(&mut text, &run.replies);
+            report.push_line(&mut text, "history");
+            report.push(&mut text, &run.history);
+        } else {
+            text = report.joined(&["copied ", run.copied, "\n"]);
+        }
         text.truncate(run.room);
     }
     text
@@ -34,6 +39,9 @@ pub(crate) fn check_end(report: &mut Report, run: &Run<'_>, begun: &Stored<'_>, 
     }
     if outcome.end.as_slice() != run.status.as_bytes() {
         report.tell("the status is ", &outcome.end);
+    }
+    if run.source_stays && !outcome.is_kept {
+        report.tell("the copied devices have other bytes", b"");
     }
     let due = text_due(report, run);
     if due != outcome.text && !is_one_of(&run.others, &outcome.text) {

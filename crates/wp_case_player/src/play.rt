@@ -8,6 +8,7 @@ use std::thread::Threads;
 use wp_memory::{GateDisk, Hold, HoldGate, MemDisk, MemSink, MemSource};
 use wp_outside::Disks;
 use wp_run::{Ended, Status, run};
+use wp_run_copy::run_copy;
 
 /// Room for what a device has, and for all that is written to it. Clients side by side compact at moments of their own, and so write
 /// more or less: 200 compactions of 5,000 versions have room.
@@ -57,6 +58,11 @@ pub(crate) struct Call<'a> {
     pub(crate) holds: &'a [Hold],
 }
 
+/// Whether this command line makes a copy.
+pub(crate) fn makes_copy(words: &str) -> bool {
+    words == "wp copy" || words.starts_with("wp copy ")
+}
+
 /// What a run leaves of a device.
 #[derive(Drop)]
 pub(crate) struct Left {
@@ -77,6 +83,8 @@ pub(crate) struct Outcome {
     pub(crate) tables: Left,
     /// Whether each hold ended because what it waited for came, and each line that a hold names came and was answered.
     pub(crate) is_held: bool,
+    /// Whether the devices of the store that was copied, if one was, have the bytes that they had.
+    pub(crate) is_kept: bool,
 }
 
 // Written out: else each function that lets an outcome go proves anew how all that it holds is let go.
@@ -89,6 +97,7 @@ impl Drop for Outcome {
             manifest: _manifest,
             tables: _tables,
             is_held: _is_held,
+            is_kept: _is_kept,
         } = self;
     }
 }
@@ -179,6 +188,7 @@ fn outcome_of(
     ended: &Ended<CaseDisk<'_>>,
     sink: &MemSink,
     gate: &HoldGate,
+    is_kept: bool,
 ) -> Outcome {
     let mut text = Vec::new(report.alloc);
     report.push(&mut text, sink.bytes());
@@ -189,6 +199,7 @@ fn outcome_of(
         manifest: left_of(report, &ended.disks.manifest),
         tables: left_of(report, &ended.disks.tables),
         is_held: !gate.late() && gate.whole(),
+        is_kept,
     }
 }
 
@@ -208,9 +219,41 @@ fn play_on<R: Threads + Wait + Sync>(
     report.keep(&mut fails, call.source_fails);
     let mut source = MemSource::new(script, fails);
     let ended = run(rt, alloc, &words, disks, &mut source, sink, gate);
-    let outcome = outcome_of(report, &ended, sink, gate);
+    let outcome = outcome_of(report, &ended, sink, gate, true);
     drop(ended);
     outcome
+}
+
+/// Copies the store with the first bytes to these devices; nothing where memory is wanting.
+fn play_copy<R: Wait>(
+    rt: &R,
+    report: &mut Report,
+    call: &Call<'_>,
+    copied: &Stored<'_>,
+    target: Disks<CaseDisk<'_>>,
+    gate: &HoldGate,
+    clock: &AtomicU64,
+    sink: &mut MemSink,
+) -> Option<Outcome> {
+    let alloc = report.alloc;
+    let words = words_of(report, call.words);
+    let disks = disks_of(alloc, copied, &[SOUND; 3], gate, clock);
+    let Some(disks) = report.made(disks) else {
+        drop(target);
+        return None;
+    };
+    let (Ended { status, disks }, target) = run_copy(rt, alloc, &words, disks, target, sink);
+    let is_kept = disks.log.bytes() == copied[0]
+        && disks.manifest.bytes() == copied[1]
+        && disks.tables.bytes() == copied[2];
+    drop(disks);
+    let made = Ended {
+        status,
+        disks: target,
+    };
+    let outcome = outcome_of(report, &made, sink, gate, is_kept);
+    drop(made);
+    Some(outcome)
 }
 
 /// Runs the program behind this gate.
@@ -218,6 +261,7 @@ fn play_behind<R: Threads + Wait + Sync>(
     rt: &R,
     report: &mut Report,
     call: &Call<'_>,
+    copied: &Stored<'_>,
     stored: &Stored<'_>,
     faults: &[Faults; 3],
     gate: &HoldGate,
@@ -230,23 +274,29 @@ fn play_behind<R: Threads + Wait + Sync>(
         drop(disks);
         return None;
     };
-    let outcome = play_on(rt, report, call, disks, gate, &mut sink);
+    let outcome = if makes_copy(call.words) {
+        play_copy(rt, report, call, copied, disks, gate, &clock, &mut sink)
+    } else {
+        Some(play_on(rt, report, call, disks, gate, &mut sink))
+    };
     drop(sink);
-    Some(outcome)
+    outcome
 }
 
-/// Runs the program on devices with these bytes, which go wrong so; nothing where memory is wanting.
+/// Runs the program on devices with these bytes, which go wrong so; nothing where memory is wanting. A copy is made to these devices,
+/// of the store with the bytes before, whose devices answer all calls.
 pub(crate) fn play<R: Threads + Wait + Sync>(
     rt: &R,
     report: &mut Report,
     call: &Call<'_>,
+    copied: &Stored<'_>,
     stored: &Stored<'_>,
     faults: &[Faults; 3],
 ) -> Option<Outcome> {
     let alloc = report.alloc;
     let holds = report.made(call.holds.to_vec(alloc))?;
     let gate = report.made(HoldGate::new(alloc, holds, AMPLE_TURNS))?;
-    let outcome = play_behind(rt, report, call, stored, faults, &gate);
+    let outcome = play_behind(rt, report, call, copied, stored, faults, &gate);
     drop(gate);
     outcome
 }
@@ -265,5 +315,5 @@ pub(crate) fn show<R: Threads + Wait + Sync>(
         room: AMPLE_ROOM,
         holds: &[],
     };
-    play(rt, report, &call, stored, &[SOUND; 3])
+    play(rt, report, &call, &[b""; 3], stored, &[SOUND; 3])
 }

@@ -26,7 +26,7 @@ pub(crate) struct Run<'a> {
     /// The line that begins it.
     pub(crate) line: usize,
     /// What the program is called with.
-    words: &'a str,
+    pub(crate) words: &'a str,
     script: Vec<u8>,
     source_fails: u64,
     pub(crate) room: usize,
@@ -39,6 +39,12 @@ pub(crate) struct Run<'a> {
     pub(crate) stays: bool,
     /// The status, and its line on standard error.
     pub(crate) status: &'a str,
+    /// What is told of a copy, behind the word `copied`; empty where the run makes none.
+    pub(crate) copied: &'a str,
+    /// Whether the devices that are copied have to end with the bytes that they began with.
+    pub(crate) source_stays: bool,
+    /// Whether it is a copy to be swept.
+    pub(crate) is_swept_copy: bool,
     /// The replies, with the lines that begin each client's.
     pub(crate) replies: Vec<u8>,
     /// A line for each entry of the history, and the line that ends it.
@@ -101,6 +107,9 @@ impl<'a> Run<'a> {
             tables: Device::new(report, "tables"),
             stays: false,
             status: "0 ok",
+            copied: "",
+            source_stays: false,
+            is_swept_copy: false,
             replies: Vec::new(alloc),
             history: Vec::new(alloc),
             others: Vec::new(alloc),
@@ -178,6 +187,7 @@ impl<'a> Run<'a> {
             "order" => push_order(report, &mut self.holds, words),
             "status" => self.status = words,
             "keep" => self.kept = words,
+            "copied" => self.copied = words,
             "cut" => {
                 let count = report.number(words);
                 let lines = Vec::new(report.alloc);
@@ -207,6 +217,8 @@ impl<'a> Run<'a> {
             }
             "source fails" => self.source_fails = 1,
             "devices stay" => self.stays = true,
+            "source stays" => self.source_stays = true,
+            "sweep" => self.is_swept_copy = true,
             _ => report.understands_not(),
         }
     }
@@ -225,9 +237,10 @@ impl<'a> Run<'a> {
             "manifest" => self.manifest.read(report, names, words),
             "tables" => self.tables.read(report, names, words),
             "opens" => self.read_opens(report, words),
-            "room" | "hold" | "order" | "status" | "keep" | "cut" | "sweep" => self.read_words(
+            "room" | "hold" | "order" | "status" | "keep" | "copied" | "cut" => self.read_words(
                 report, verb, words,
             ),
+            "sweep" if !words.is_empty() => self.read_words(report, verb, words),
             "script" if !words.is_empty() => self.script = bytes_of(report, names, words),
             _ => self.read_whole(report, before, clause),
         }

@@ -1,5 +1,5 @@
 //! A run made again and again, each time with devices that go wrong at other calls. What is left, as it is and as a crash may leave
-//! it, opens to what was acknowledged, and works on.
+//! it, opens to what was acknowledged, and works on; or what a copy left, to all of it or to nothing.
 
 use crate::counts::raise;
 use crate::crash::push_images;
@@ -18,6 +18,9 @@ const LOG_FAULT: &str = "7 log fault";
 
 const TABLE_FAULT: &str = "8 table fault";
 
+/// What shows an empty store.
+const EMPTY: &[u8] = b"history\nend 0 0\n";
+
 /// How the devices go wrong, and how the run has to end then.
 #[derive(Clone, Copy)]
 struct Trial {
@@ -33,6 +36,14 @@ struct Swept<'a> {
     calls: &'a [u64],
     opening: usize,
     ends: [&'static str; 2],
+}
+
+/// What the devices have to open to: to one of the stages, and they work on with this script; or to the copy that this text shows, or
+/// to an empty store, where they are not refused because only the log was made.
+#[derive(Clone, Copy)]
+enum Expected<'a> {
+    Worked(&'a [u8], &'a [Stage]),
+    Copied(&'a [u8]),
 }
 
 fn stops_at(call: usize) -> Faults {
@@ -134,6 +145,33 @@ fn trials_of(report: &mut Report, whole: &Outcome, shown: &Outcome) -> Vec<Trial
     trials
 }
 
+/// All trials of a copy that left this where no device went wrong.
+fn copy_trials_of(report: &mut Report, whole: &Outcome) -> Vec<Trial> {
+    let log = Swept {
+        place: 0,
+        calls: &whole.log.calls,
+        opening: whole.log.calls.len(),
+        ends: ["11 copy failed: log", ""],
+    };
+    let manifest = Swept {
+        place: 1,
+        calls: &whole.manifest.calls,
+        opening: whole.manifest.calls.len(),
+        ends: ["11 copy failed: manifest", ""],
+    };
+    let tables = Swept {
+        place: 2,
+        calls: &whole.tables.calls,
+        opening: whole.tables.calls.len(),
+        ends: ["11 copy failed: tables", ""],
+    };
+    let mut trials = Vec::new(report.alloc);
+    push_alone(report, &mut trials, &log, whole);
+    push_alone(report, &mut trials, &manifest, whole);
+    push_alone(report, &mut trials, &tables, whole);
+    trials
+}
+
 /// How the run has to end. Where a renewal found the tables' devices failed it stopped the log, which is called at all calls that it
 /// has where no device fails.
 fn due(run: &Run<'_>, trial: &Trial, outcome: &Outcome) -> &'static str {
@@ -148,14 +186,13 @@ fn due(run: &Run<'_>, trial: &Trial, outcome: &Outcome) -> &'static str {
 }
 
 /// Devices with these bytes have to open to one of the stages, work on, and open to what they then have.
-fn opens<R: Threads + Wait + Sync>(
+fn works<R: Threads + Wait + Sync>(
     rt: &R,
     report: &mut Report,
     work: &[u8],
     stages: &[Stage],
     stored: &Stored<'_>,
 ) {
-    raise(&mut report.counts.images);
     let call = Call {
         words: "wp run --bits 0",
         script: work,
@@ -163,7 +200,7 @@ fn opens<R: Threads + Wait + Sync>(
         room: AMPLE_ROOM,
         holds: &[],
     };
-    let Some(next) = play(rt, report, &call, stored, &[SOUND; 3]) else {
+    let Some(next) = play(rt, report, &call, &[b""; 3], stored, &[SOUND; 3]) else {
         return;
     };
     let Some(again) = show(rt, report, &next.stored()) else {
@@ -171,6 +208,36 @@ fn opens<R: Threads + Wait + Sync>(
     };
     if !is_any_shown(stages, &next.text, &again.text) {
         report.tell("what a crash may leave opens to no such store", b"");
+    }
+}
+
+/// Devices with these bytes have to show the copy or an empty store; or to be refused, since the manifest was not made yet.
+fn shows_copy<R: Threads + Wait + Sync>(
+    rt: &R,
+    report: &mut Report,
+    copy: &[u8],
+    stored: &Stored<'_>,
+) {
+    let Some(shown) = show(rt, report, stored) else {
+        return;
+    };
+    let is_ahead = shown.end.starts_with(b"9 contents: base ahead ") && shown.end.ends_with(b" 0");
+    if shown.text.as_slice() != copy && shown.text.as_slice() != EMPTY && !is_ahead {
+        report.tell("what a crash may leave of a copy shows\n", &shown.text);
+    }
+}
+
+/// Devices with these bytes open to what they have to.
+fn opens<R: Threads + Wait + Sync>(
+    rt: &R,
+    report: &mut Report,
+    expected: &Expected<'_>,
+    stored: &Stored<'_>,
+) {
+    raise(&mut report.counts.images);
+    match expected {
+        Expected::Worked(work, stages) => works(rt, report, work, stages, stored),
+        Expected::Copied(copy) => shows_copy(rt, report, copy, stored),
     }
 }
 
@@ -185,8 +252,7 @@ fn images_of(report: &mut Report, left: &Left) -> Vec<Vec<u8>> {
 fn images_open<R: Threads + Wait + Sync>(
     rt: &R,
     report: &mut Report,
-    work: &[u8],
-    stages: &[Stage],
+    expected: &Expected<'_>,
     outcome: &Outcome,
 ) {
     let logs = images_of(report, &outcome.log);
@@ -196,25 +262,28 @@ fn images_open<R: Threads + Wait + Sync>(
         for manifest in &manifests {
             for tables in &all_tables {
                 if report.is_good() {
-                    opens(rt, report, work, stages, &[log, manifest, tables]);
+                    opens(rt, report, expected, &[log, manifest, tables]);
                 }
             }
         }
     }
 }
 
-/// Tells of a run that did not end so, with its whole text, or none where the opening failed.
+/// Tells of a run that did not end so, with its whole text, or none where the opening or the copy failed.
 fn check(report: &mut Report, stages: &[Stage], outcome: &Outcome, due: &str) {
     if outcome.end.as_slice() != due.as_bytes() {
         report.tell("the status is ", &outcome.end);
     }
-    if !is_whole(stages, &outcome.text, due.starts_with("10 ")) {
+    if !is_whole(stages, &outcome.text, due.starts_with('1')) {
         report.tell("the text is\n", &outcome.text);
     }
 }
 
-/// Adds to what is told how the devices went wrong.
+/// Adds to what is told, where something is wrong now, how the devices went wrong.
 fn add_faults(report: &mut Report, faults: &[Faults; 3]) {
+    if report.is_good() {
+        return;
+    }
     let [log, manifest, tables] = faults;
     let alloc = report.alloc;
     let calls = report.spelled(format!(in alloc;
@@ -232,17 +301,47 @@ fn make_trial<R: Threads + Wait + Sync>(
     stored: &Stored<'_>,
     trial: &Trial,
 ) {
-    if !report.is_good() {
-        return;
-    }
-    if let Some(outcome) = play(rt, report, &run.call(), stored, &trial.faults) {
+    if let Some(outcome) = play(rt, report, &run.call(), &[b""; 3], stored, &trial.faults) {
         let due = due(run, trial, &outcome);
         let stages = stages_after(&run.stages, &outcome.text, due.starts_with("7 "));
         check(report, stages, &outcome, due);
-        images_open(rt, report, &run.work, stages, &outcome);
+        images_open(rt, report, &Expected::Worked(&run.work, stages), &outcome);
     }
-    if !report.is_good() {
-        add_faults(report, &trial.faults);
+}
+
+/// Makes the copy with these faults. It has to end so, and what it leaves is all of it or nothing. This text shows all of it.
+fn make_copy_trial<R: Threads + Wait + Sync>(
+    rt: &R,
+    report: &mut Report,
+    run: &Run<'_>,
+    copy: &[u8],
+    copied: &Stored<'_>,
+    stored: &Stored<'_>,
+    trial: &Trial,
+) {
+    if let Some(outcome) = play(rt, report, &run.call(), copied, stored, &trial.faults) {
+        check(report, &[], &outcome, trial.due);
+        images_open(rt, report, &Expected::Copied(copy), &outcome);
+    }
+}
+
+/// Lets the devices of a copy go wrong at each call that is made of them. `whole` is what it leaves where none does.
+fn sweep_copy<R: Threads + Wait + Sync>(
+    rt: &R,
+    report: &mut Report,
+    run: &Run<'_>,
+    copied: &Stored<'_>,
+    stored: &Stored<'_>,
+    whole: &Outcome,
+) {
+    let Some(copy) = show(rt, report, &whole.stored()) else {
+        return;
+    };
+    for trial in &copy_trials_of(report, whole) {
+        if report.is_good() {
+            make_copy_trial(rt, report, run, &copy.text, copied, stored, trial);
+            add_faults(report, &trial.faults);
+        }
     }
 }
 
@@ -252,9 +351,13 @@ pub(crate) fn make_sweep<R: Threads + Wait + Sync>(
     rt: &R,
     report: &mut Report,
     run: &Run<'_>,
+    copied: &Stored<'_>,
     stored: &Stored<'_>,
     whole: &Outcome,
 ) {
+    if run.is_swept_copy {
+        sweep_copy(rt, report, run, copied, stored, whole);
+    }
     if run.stages.is_empty() || !report.is_good() {
         return;
     }
@@ -262,6 +365,9 @@ pub(crate) fn make_sweep<R: Threads + Wait + Sync>(
         return;
     };
     for trial in &trials_of(report, whole, &shown) {
-        make_trial(rt, report, run, stored, trial);
+        if report.is_good() {
+            make_trial(rt, report, run, stored, trial);
+            add_faults(report, &trial.faults);
+        }
     }
 }
