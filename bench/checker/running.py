@@ -4,6 +4,7 @@ import shutil
 import subprocess
 import tempfile
 import time
+from contextlib import contextmanager
 from pathlib import Path
 from random import Random
 
@@ -64,22 +65,35 @@ def fill(folder, entries):
         run(folder, script([lines]))
 
 
-def run(folder, text, words=(), program=WP, **setting):
+def run(folder, text, words=(), program=WP, command="run", **setting):
     """The seconds that a run takes on the folder's store, and its transcript."""
     start = time.perf_counter()
-    ended = subprocess.run([program, "run", *words], input=text.encode(), stdout=subprocess.PIPE, cwd=folder, env={**os.environ, **setting}, check=True)
+    ended = subprocess.run([program, command, *words], input=text.encode(), stdout=subprocess.PIPE, cwd=folder, env={**os.environ, **setting}, check=True)
     return time.perf_counter() - start, ended.stdout.decode()
 
 
-def run_on_copy(store, text, folder, words=(), **setting):
-    """... on a copy of the store in that folder, which is synced first, or on a new store there."""
+@contextmanager
+def copy_of(store, folder):
+    """A copy of the store's files below that folder, which is synced, or a new store there."""
     with tempfile.TemporaryDirectory(dir=folder) as copy:
         if store:
             shutil.copytree(store, copy, dirs_exist_ok=True)
             for file in Path(copy).iterdir():
                 with file.open() as opened:
                     os.fsync(opened.fileno())
+        yield copy
+
+
+def run_on_copy(store, text, folder, words=(), **setting):
+    """... on a copy of the store below that folder, or on a new store there."""
+    with copy_of(store, folder) as copy:
         return run(copy, text, words, **setting)
+
+
+def take_copy(folder, to):
+    """Moves the files that `wp copy` made in the folder to another one, as those of a store."""
+    for file in Path(folder).glob("copy.*"):
+        shutil.move(file, Path(to) / f"wp{file.suffix}")
 
 
 def build(folder, name, source):

@@ -6,7 +6,7 @@ is what the commands between them took, with the first put. It needs `cc`.
 """
 from pathlib import Path
 
-from .running import build, run_on_copy, script
+from .running import build, copy_of, run, run_on_copy, script, take_copy
 
 MARK = 251
 MARKING = f"put mark {'v' * MARK}"
@@ -110,8 +110,9 @@ static long resident(void) {
     return kilobytes * 1024;
 }
 
-/* The program's last call. */
+/* The program's last call. A copy has no sessions: all of it counts as its opening. */
 _Noreturn void _exit(int status) {
+    if (!sessions) opened = ended = now();
     FILE *told = fopen(getenv("WATCH"), "w");
     fprintf(told, "%ld %ld %ld %ld %ld\n", opened - begun, ended - opened, live, most, resident());
     for (int i = 0; i < noting; i++) {
@@ -169,8 +170,18 @@ class Watcher:
     def watch(self, store, clients, words=(), folder=None, **setting):
         """One run on a copy of the store in that folder, or in its own."""
         text = script(clients if len(clients) > 1 else [*clients, IDLE])
-        _, transcript = run_on_copy(store, text, folder or self.folder, words, LD_PRELOAD=self.library, WATCH=str(self.told), WATCH_MARK=str(MARK), **setting)
+        _, transcript = run_on_copy(store, text, folder or self.folder, words, **self.watching(), **setting)
         return Watched(self.told, transcript)
+
+    def copy(self, store, folder, to):
+        """Copies the store, out of a copy of its files below the first folder. What was copied is the store in the other one then."""
+        with copy_of(store, folder) as there:
+            _, line = run(there, "", command="copy", **self.watching())
+            take_copy(there, to)
+        return Watched(self.told, line)
+
+    def watching(self):
+        return {"LD_PRELOAD": self.library, "WATCH": str(self.told), "WATCH_MARK": str(MARK)}
 
 
 def longest(times, begun, ended):
